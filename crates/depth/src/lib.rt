@@ -1,0 +1,1 @@
+// Columns and depth: definitions in specs/, their theory in proofs/.

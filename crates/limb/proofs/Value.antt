@@ -1,0 +1,95 @@
+-- Laws of `valueIn`, over any base B, since omega does not get far with 2 ^ 64 written out. Assumes nothing.
+use mathlib.Core.Path.{_≡_, refl, sym, ap, _∙_, subst}
+use Prim.Native.Nat.{ℕ, zero, suc, _+_, _-_, _*_, _/_, _%_, _^_, _≤_, _<_, zero-le, suc-le-suc}
+use native.Mathlib.Decide.{decLe}
+use native.Mathlib.Nat.{pow-le-pow-right, one-le-pow, add-mul-div-left, add-mul-mod-self-left, mod-eq-of-lt, div-eq-of-lt, pow-succ', pow-zero, le-of-suc-le-suc, not-suc-le-zero, mul-le-mul-left, mul-zero, zero-lt-suc, suc-ne-zero, mul-add, mul-assoc, add-assoc, add-zero, one-mul, zero-add, add-mul, mul-comm}
+use native.Mathlib.Omega.{arith}
+use native.Mathlib.Numerals.{add-one}
+use mathlib.Core.List.{List, [], _∷_, _++_}
+use lib.ListN.{length, getD, take, drop, set}
+use lib.Pow.{pow-add}
+use Rattle.limb.specs.Value.{valueIn, Below}
+
+module _ (B : ℕ) where
+  pub value-nil : valueIn B [] ≡ 0
+  unfolding valueIn
+  value-nil = refl
+
+  pub value-append : (xs ys : List ℕ) → valueIn B (xs ++ ys) ≡ valueIn B xs + B ^ length xs * valueIn B ys
+  unfolding valueIn
+  value-append [] ys = rw pow-zero (omega arith)
+  value-append (x ∷ xs) ys = omega (arith, ap (λ (n : ℕ). B * n) (value-append xs ys), ap (λ (n : ℕ). n * valueIn B ys) (pow-succ' B (length xs)))
+
+  -- cut at any place
+  pub value-split : (n : ℕ) (l : List ℕ) → valueIn B l ≡ valueIn B (take n l) + B ^ n * valueIn B (drop n l)
+  unfolding valueIn
+  value-split zero l = rw pow-zero (omega arith)
+  value-split (suc n) [] = omega arith
+  value-split (suc n) (x ∷ xs) = omega (arith, ap (λ (m : ℕ). B * m) (value-split n xs), ap (λ (m : ℕ). m * valueIn B (drop n xs)) (pow-succ' B n))
+
+  -- one limb more from the front; past the end the limb is 0
+  pub value-take : (i : ℕ) (l : List ℕ) → valueIn B (take (suc i) l) ≡ valueIn B (take i l) + B ^ i * getD l i 0
+  unfolding valueIn
+  value-take zero [] = omega arith
+  value-take (suc i) [] = omega arith
+  value-take zero (x ∷ xs) = rw pow-zero (omega arith)
+  value-take (suc i) (x ∷ xs) = omega (arith, ap (λ (m : ℕ). B * m) (value-take i xs), ap (λ (m : ℕ). m * getD xs i 0) (pow-succ' B i))
+
+  pub value-drop : (i : ℕ) (l : List ℕ) → valueIn B (drop i l) ≡ getD l i 0 + B * valueIn B (drop (suc i) l)
+  unfolding valueIn
+  value-drop zero [] = omega arith
+  value-drop (suc i) [] = omega arith
+  value-drop zero (x ∷ xs) = refl
+  value-drop (suc i) (x ∷ xs) = value-drop i xs
+
+  pub value-set : (l : List ℕ) (i v : ℕ) → i < length l → valueIn B (set l i v) + B ^ i * getD l i 0 ≡ valueIn B l + B ^ i * v
+  unfolding valueIn
+  value-set [] i v h = absurd (not-suc-le-zero h)
+  value-set (x ∷ xs) zero v h = rw pow-zero (omega arith)
+  value-set (x ∷ xs) (suc i) v h =
+      omega (arith, ap (λ (m : ℕ). B * m) (value-set xs i v (le-of-suc-le-suc h)), ap (λ (m : ℕ). m * getD xs i 0) (pow-succ' B i), ap (λ (m : ℕ). m * v) (pow-succ' B i))
+
+  pub value-lt : (l : List ℕ) → Below B l → valueIn B l < B ^ length l
+  unfolding valueIn
+  value-lt [] h = rw pow-zero (omega arith)
+  value-lt (x ∷ xs) h =
+      let r = value-lt xs (λ i. h (suc i)) in
+      omega (arith, h zero, mul-le-mul-left B r, pow-succ' B (length xs))
+
+  pub value-take-lt : (n : ℕ) (l : List ℕ) → Below B l → valueIn B (take n l) < B ^ n
+  unfolding valueIn
+  value-take-lt zero l h = rw pow-zero (omega arith)
+  value-take-lt (suc n) [] h = one-le-pow (suc n) B (h zero)
+  value-take-lt (suc n) (x ∷ xs) h =
+      let r = value-take-lt n xs (λ i. h (suc i)) in
+      omega (arith, h zero, mul-le-mul-left B r, pow-succ' B n)
+
+  base-pos : (n : ℕ) (l : List ℕ) → Below B l → 0 < B ^ n
+  base-pos n l h = one-le-pow n B (omega (arith, h zero))
+
+  -- the high limbs are the quotient by a power of the base, and the low limbs the remainder
+  pub value-shr : (n : ℕ) (l : List ℕ) → Below B l → valueIn B l / B ^ n ≡ valueIn B (drop n l)
+  value-shr n l h =
+      ap (λ (m : ℕ). m / B ^ n) (value-split n l) ∙ add-mul-div-left (valueIn B (take n l)) (valueIn B (drop n l)) (base-pos n l h)
+      ∙ ap (λ (m : ℕ). m + valueIn B (drop n l)) (div-eq-of-lt (value-take-lt n l h)) ∙ zero-add _
+
+  pub value-low : (n : ℕ) (l : List ℕ) → Below B l → valueIn B l % B ^ n ≡ valueIn B (take n l)
+  value-low n l h =
+      ap (λ (m : ℕ). m % B ^ n) (value-split n l) ∙ add-mul-mod-self-left (valueIn B (take n l)) (B ^ n) (valueIn B (drop n l))
+      ∙ mod-eq-of-lt (value-take-lt n l h)
+
+  -- the carry out of a sum of two lists that are as long as the target at most, and a carry in of at most 1
+  pub carry-le : (t o : List ℕ) (v k r : ℕ) → Below B t → Below B o → length o ≤ length t → k ≤ 1
+      → v + B ^ length t * r ≡ valueIn B t + valueIn B o + k → r ≤ 1
+  carry-le t o v k r ht ho hl hk e =
+      elim (decLe r 1) [
+        | yes h ↦ h
+        | no h ↦
+            let two : 2 ≤ r = omega arith in
+            omega (arith, value-lt t ht, value-lt o ho, one-le-pow (length t) B (omega (arith, ht zero)), pow-le-pow-right {n = B} (omega (arith, ht zero)) hl, mul-le-mul-left (B ^ length t) two)
+      ]
+
+-- a power of the base, in bits
+pub base-pow : (n : ℕ) → (2 ^ 64) ^ n ≡ 2 ^ (64 * n)
+base-pow zero = refl
+base-pow (suc n) = pow-succ' (2 ^ 64) n ∙ ap (λ (m : ℕ). 2 ^ 64 * m) (base-pow n) ∙ sym (pow-add 2 64 (64 * n)) ∙ ap (λ (m : ℕ). 2 ^ m) (omega arith)

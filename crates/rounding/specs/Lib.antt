@@ -1,0 +1,4 @@
+pub mod Mode
+pub mod Select
+pub mod Answer
+pub mod Sum
