@@ -12,8 +12,8 @@ quotient under m u = m / u
 quotient over m u = (m + (u - 1)) / u
 
 -- the multiple of the unit u that is selected for m
-unfoldable pub multiple : Way → ℕ → ℕ → ℕ
-multiple w u m = quotient w m u * u
+unfoldable pub onGrid : Way → ℕ → ℕ → ℕ
+onGrid w u m = quotient w m u * u
 
 -- the weight of the last of p digits of m (`size` counts the binary digits of m)
 unfoldable pub unit : ℕ → ℕ → ℕ
@@ -21,4 +21,4 @@ unit p m = 2 ^ (size m - p)
 
 -- the p-digit number that is selected for m
 unfoldable pub chosen : Way → ℕ → ℕ → ℕ
-chosen w p m = multiple w (unit p m) m
+chosen w p m = onGrid w (unit p m) m

@@ -1,0 +1,9 @@
+pub mod Order
+pub mod Grid
+pub mod Selection
+pub mod Between
+pub mod Ends
+pub mod Scale
+pub mod Even
+pub mod Unique
+pub mod Paper
