@@ -1,7 +1,7 @@
 -- 64 bits across two limbs: the arithmetic of `fetch`. Assumes nothing.
 use mathlib.Core.Path.{_≡_, refl, sym, ap, _∙_, subst}
 use Prim.Native.Nat.{ℕ, suc, _+_, _-_, _*_, _/_, _%_, _^_, _≤_, _<_}
-use native.Mathlib.Nat.{add-mul-div-left, add-mul-mod-self-left, add-mod-mod, mod-eq-of-lt, mod-lt, mul-mod-left, add-comm, add-zero, sub-add-cancel, le-of-lt, mul-assoc, div-one, pow-zero, mul-comm}
+use native.Mathlib.Nat.{add-mul-div-left, add-mul-mod-self-left, add-mod-mod, mod-eq-of-lt, mod-lt, mul-mod-left, mul-one, add-comm, add-zero, sub-add-cancel, le-of-lt, mul-assoc, div-one, pow-zero, mul-comm}
 use native.Mathlib.Omega.{arith}
 use native.Mathlib.Numerals.{add-one}
 use mathlib.Core.List.{List}
@@ -11,7 +11,8 @@ use lib.Pow.{pow-pos, pow-add, mod-pow-add, shl-shr, shr-shr, shr-lt}
 use lib.Bits.{bitOr, or-shifted-r}
 use Rattle.limb.specs.Value.{valueIn, Below}
 use lib.Seq.{take-set-le, getD-set-same}
-use Rattle.limb.proofs.Value.{value-take, value-drop, value-shr, base-pow}
+use Rattle.run.specs.LowLimbs.{LowLimbs}
+use Rattle.limb.proofs.Value.{value-unique, value-take, value-drop, value-shr, base-pow}
 
 -- what a left shift by u keeps at j + u bits: the low j bits of h, moved up
 kept : (h j u : ℕ) → h * 2 ^ u % 2 ^ (j + u) ≡ h % 2 ^ j * 2 ^ u
@@ -61,6 +62,65 @@ module _ (l : List ℕ) (q t : ℕ) (ht : t < 64) (h : Below (2 ^ 64) l) where
       sym (ap (λ (m : ℕ). m % 2 ^ 64) (from-limb ∙ ap (λ (m : ℕ). m / 2 ^ t) two-limbs)
       ∙ rw e at (window t (64 - t) (getD l q 0) (getD l (q + 1) 0) (valueIn (2 ^ 64) (drop (suc (q + 1)) l)) (rw e (h q))))
 
+-- moved up by m and n bits at once
+moved-twice : (x m n : ℕ) → x * 2 ^ (m + n) ≡ x * 2 ^ m * 2 ^ n
+moved-twice x m n = ap (λ (p : ℕ). x * p) (pow-add 2 m n) ∙ sym (mul-assoc x (2 ^ m) (2 ^ n))
+
+-- a run times p, with its lowest limb apart
+lowest-times : (B : ℕ) (l : List ℕ) (p : ℕ) → valueIn B l * p ≡ getD l 0 0 * p + B * (valueIn B (drop 1 l) * p)
+lowest-times B l p = omega (arith, ap (λ (m : ℕ). m * p) (value-drop B 0 l))
+
+-- limb i of a run that is moved up by k bits
+module _ (l : List ℕ) (k i : ℕ) (h : Below (2 ^ 64) l) where
+  -- below limb k / 64 it is 0
+  pub raised-below : i < k / 64 → 0 ≡ valueIn (2 ^ 64) l * 2 ^ k / 2 ^ (64 * i) % 2 ^ 64
+  raised-below hi =
+      let x : ℕ = valueIn (2 ^ 64) l in
+      let j : ℕ = k - 64 * (i + 1) in
+      let ek : k ≡ (j + 64) + 64 * i = omega arith in
+      let e : x * 2 ^ k ≡ x * 2 ^ j * 2 ^ 64 * 2 ^ (64 * i) =
+      ap (λ (m : ℕ). x * 2 ^ m) ek ∙ moved-twice x (j + 64) (64 * i) ∙ ap (λ (m : ℕ). m * 2 ^ (64 * i)) (moved-twice x j 64) in
+      sym (rw (e, shl-shr (x * 2 ^ j * 2 ^ 64) (64 * i)) (mul-mod-left (x * 2 ^ j) (2 ^ 64)))
+
+  -- from there on the whole limbs of the move only change its place
+  from-there : k / 64 ≤ i → valueIn (2 ^ 64) l * 2 ^ k / 2 ^ (64 * i) ≡ valueIn (2 ^ 64) l * 2 ^ (k % 64) / 2 ^ (64 * (i - k / 64))
+  from-there hi =
+      let x : ℕ = valueIn (2 ^ 64) l in
+      let q : ℕ = k / 64 in
+      let ek : k ≡ k % 64 + 64 * q = omega arith in
+      let ei : 64 * i ≡ 64 * q + 64 * (i - q) = omega arith in
+      let e : x * 2 ^ k ≡ x * 2 ^ (k % 64) * 2 ^ (64 * q) = ap (λ (m : ℕ). x * 2 ^ m) ek ∙ moved-twice x (k % 64) (64 * q) in
+      ap (λ (m : ℕ). m / 2 ^ (64 * i)) e ∙ ap (λ (m : ℕ). x * 2 ^ (k % 64) * 2 ^ (64 * q) / 2 ^ m) ei
+      ∙ sym (shr-shr (x * 2 ^ (k % 64) * 2 ^ (64 * q)) (64 * q) (64 * (i - q))) ∙ ap (λ (m : ℕ). m / 2 ^ (64 * (i - q))) (shl-shr (x * 2 ^ (k % 64)) (64 * q))
+
+  -- a move by whole limbs alone
+  pub raised-whole : k / 64 ≤ i → k % 64 ≡ 0 → getD l (i - k / 64) 0 ≡ valueIn (2 ^ 64) l * 2 ^ k / 2 ^ (64 * i) % 2 ^ 64
+  raised-whole hi z =
+      let x : ℕ = valueIn (2 ^ 64) l in
+      let j : ℕ = i - k / 64 in
+      let none : 64 * j + 0 ≡ 64 * j = omega arith in
+      (rw none at (whole l j 0 (omega arith) h refl))
+      ∙ sym (ap (λ (m : ℕ). m % 2 ^ 64) (from-there hi ∙ ap (λ (m : ℕ). x * 2 ^ m / 2 ^ (64 * j)) z ∙ ap (λ (m : ℕ). m / 2 ^ (64 * j)) (mul-one x)))
+
+  -- the lowest limb that is not all 0
+  pub raised-lowest : k / 64 ≤ i → i - k / 64 ≡ 0 → getD l 0 0 * 2 ^ (k % 64) % 2 ^ 64 ≡ valueIn (2 ^ 64) l * 2 ^ k / 2 ^ (64 * i) % 2 ^ 64
+  raised-lowest hi z =
+      let x : ℕ = valueIn (2 ^ 64) l in
+      let p : ℕ = 2 ^ (k % 64) in
+      let r : ℕ = valueIn (2 ^ 64) (drop 1 l) in
+      let e : x * p ≡ getD l 0 0 * p + 2 ^ 64 * (r * p) = lowest-times (2 ^ 64) l p in
+      sym (ap (λ (m : ℕ). m % 2 ^ 64) (from-there hi ∙ ap (λ (m : ℕ). x * p / 2 ^ (64 * m)) z ∙ div-one _ ∙ e) ∙ add-mul-mod-self-left (getD l 0 0 * p) (2 ^ 64) (r * p))
+
+  -- above it, the 64 bits of the run that come there
+  pub raised-above : k / 64 ≤ i → (k % 64 ≡ 0 → ⊥) → (i - k / 64 ≡ 0 → ⊥)
+      → valueIn (2 ^ 64) l / 2 ^ (64 * (i - k / 64 - 1) + (64 - k % 64)) % 2 ^ 64 ≡ valueIn (2 ^ 64) l * 2 ^ k / 2 ^ (64 * i) % 2 ^ 64
+  raised-above hi nb nj =
+      let x : ℕ = valueIn (2 ^ 64) l in
+      let b : ℕ = k % 64 in
+      let n : ℕ = 64 * (i - k / 64 - 1) + (64 - b) in
+      let ej : 64 * (i - k / 64) ≡ b + n = omega arith in
+      sym (ap (λ (m : ℕ). m % 2 ^ 64) (from-there hi ∙ ap (λ (m : ℕ). x * 2 ^ b / 2 ^ m) ej ∙ sym (shr-shr (x * 2 ^ b) b n) ∙ ap (λ (m : ℕ). m / 2 ^ n) (shl-shr x b)))
+
 -- one limb more of a number y, written at i: its 64 bits from bit 64 i on
 pub limb-written : (t : List ℕ) (y i w : ℕ) → i < length t → w ≡ y / 2 ^ (64 * i) % 2 ^ 64
     → valueIn (2 ^ 64) (take i t) ≡ y % (2 ^ 64) ^ i
@@ -70,3 +130,7 @@ limb-written t y i w h ew inv =
     let low : valueIn (2 ^ 64) (take i t) ≡ y % 2 ^ (64 * i) = inv ∙ ap (λ (m : ℕ). y % m) (base-pow i) in
     rw (next, add-one i, value-take (2 ^ 64) i (set t i w), take-set-le i t i w (omega arith), getD-set-same t i w 0 h, mod-pow-add y 64 (64 * i), base-pow i)
     (omega (arith, low, ap (λ (m : ℕ). 2 ^ (64 * i) * m) ew))
+
+-- the limbs of a number below 2^64 each are fixed by it: two answers that meet `LowLimbs` agree
+pub low-limbs-unique : (room n : ℕ) (xs ys : List ℕ) → Below (2 ^ 64) xs → Below (2 ^ 64) ys → LowLimbs room n xs → LowLimbs room n ys → xs ≡ ys
+low-limbs-unique room n xs ys hx hy a b = value-unique (2 ^ 64) xs ys hx hy (a .size ∙ sym (b .size)) (a .value ∙ sym (b .value))

@@ -13,6 +13,7 @@ pub use part::part_from;
 pub use part::trim;
 pub use shift::low_is_zero;
 pub use shift::shift_down_into;
+pub use shift::shift_up_into;
 pub use shift::window;
 pub use sum::add_at;
 pub use sum::add_from;

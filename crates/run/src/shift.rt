@@ -4,6 +4,7 @@ ghost use Prim.Native.Nat.{ℕ, _+_, _*_, _/_, _%_, _^_, _<_};
 ghost use lib.Dec.{eqb};
 ghost use lib.ListN.{length, getD};
 ghost use Rattle.limb.specs.Value.{valueOf};
+ghost use Rattle.run.specs.LowLimbs.{LowLimbs};
 use crate::part::limb_at;
 
 // The limb after limb i, 0 past the end. (i + 1 need not fit.)
@@ -41,13 +42,43 @@ pub fn window(s: &[u64], k: usize) -> u64
 
 // The run moved down by k bits, into the whole target.
 pub fn shift_down_into(target: &mut [u64], s: &[u64], k: usize)
-    ensures { λ r. ⌜ valueOf (now (target .exit)) ≡ valueOf (now (s .entry)) / 2 ^ k % (2 ^ 64) ^ length (now (target .entry)) ⌝ }
+    ensures { λ r. ⌜ LowLimbs (length (now (target .entry))) (valueOf (now (s .entry)) / 2 ^ k) (now (target .exit)) ⌝ }
 {
     let limbs = k / 64;
     let bits = k % 64;
     let mut i = 0;
     while i < target.len() {
         target[i] = window_at(s, limbs + i, bits);
+        i += 1;
+    }
+}
+
+// Limb i of the run moved up by k bits.
+fn raised_at(s: &[u64], i: usize, k: usize) -> u64
+    ensures { λ r. ⌜ r ≡ valueOf (now (s .entry)) * 2 ^ k / 2 ^ (64 * i) % 2 ^ 64 ⌝ }
+{
+    let limbs = k / 64;
+    let bits = k % 64;
+    if i < limbs {
+        return 0;
+    }
+    let from = i - limbs;
+    if bits == 0 {
+        return limb_at(s, from);
+    }
+    if from == 0 {
+        return limb_at(s, 0) << bits;
+    }
+    window_at(s, from - 1, 64 - bits)
+}
+
+// The run moved up by k bits, into the whole target: the bits below are 0, and what passes the target's top is dropped.
+pub fn shift_up_into(target: &mut [u64], s: &[u64], k: usize)
+    ensures { λ r. ⌜ LowLimbs (length (now (target .entry))) (valueOf (now (s .entry)) * 2 ^ k) (now (target .exit)) ⌝ }
+{
+    let mut i = 0;
+    while i < target.len() {
+        target[i] = raised_at(s, i, k);
         i += 1;
     }
 }

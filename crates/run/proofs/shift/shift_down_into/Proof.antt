@@ -65,7 +65,7 @@ returns c =
     let t : List ℕ = c .before .before .before .before .args .target .now in
     let e : l .i ≡ length (l .target) = omega arith in
     let same : length (l .target) ≡ length t = omega arith in
-    rw same at (rw (take-length (l .target)) at (rw e at (l .inv .2)))
+    record { size = same; value = rw same at (rw (take-length (l .target)) at (rw e at (l .inv .2))) }
 
 pub shift-down-into-spec : {M : Type 1} → statement M
 shift-down-into-spec =
