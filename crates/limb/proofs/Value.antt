@@ -64,6 +64,13 @@ module _ (B : ℕ) where
       let r = value-take-lt n xs (λ i. h (suc i)) in
       omega (arith, h zero, mul-le-mul-left B r, pow-succ' B n)
 
+  -- the lowest digit of a number, and the others
+  digit : (x n : ℕ) → x < B → x ≡ (x + B * n) % B
+  digit x n h = sym (add-mul-mod-self-left x B n ∙ mod-eq-of-lt h)
+
+  digits : (x n : ℕ) → x < B → n ≡ (x + B * n) / B
+  digits x n h = sym (add-mul-div-left x n (omega arith) ∙ ap (λ (m : ℕ). m + n) (div-eq-of-lt h) ∙ zero-add n)
+
   base-pos : (n : ℕ) (l : List ℕ) → Below B l → 0 < B ^ n
   base-pos n l h = one-le-pow n B (omega (arith, h zero))
 
@@ -78,16 +85,17 @@ module _ (B : ℕ) where
       ap (λ (m : ℕ). m % B ^ n) (value-split n l) ∙ add-mul-mod-self-left (valueIn B (take n l)) (B ^ n) (valueIn B (drop n l))
       ∙ mod-eq-of-lt (value-take-lt n l h)
 
-  -- the carry out of a sum of two lists that are as long as the target at most, and a carry in of at most 1
-  pub carry-le : (t o : List ℕ) (v k r : ℕ) → Below B t → Below B o → length o ≤ length t → k ≤ 1
-      → v + B ^ length t * r ≡ valueIn B t + valueIn B o + k → r ≤ 1
-  carry-le t o v k r ht ho hl hk e =
-      elim (decLe r 1) [
-        | yes h ↦ h
-        | no h ↦
-            let two : 2 ≤ r = omega arith in
-            omega (arith, value-lt t ht, value-lt o ho, one-le-pow (length t) B (omega (arith, ht zero)), pow-le-pow-right {n = B} (omega (arith, ht zero)) hl, mul-le-mul-left (B ^ length t) two)
-      ]
+  -- limbs below the base are fixed by their value and their number
+  pub value-unique : (xs ys : List ℕ) → Below B xs → Below B ys → length xs ≡ length ys → valueIn B xs ≡ valueIn B ys → xs ≡ ys
+  unfolding valueIn
+  value-unique [] [] hx hy el e = refl
+  value-unique [] (y ∷ ys) hx hy el e = absurd (omega arith)
+  value-unique (x ∷ xs) [] hx hy el e = absurd (omega arith)
+  value-unique (x ∷ xs) (y ∷ ys) hx hy el e =
+      let first : x ≡ y = digit x (valueIn B xs) (hx zero) ∙ ap (λ (m : ℕ). m % B) e ∙ sym (digit y (valueIn B ys) (hy zero)) in
+      let rest : valueIn B xs ≡ valueIn B ys = digits x (valueIn B xs) (hx zero) ∙ ap (λ (m : ℕ). m / B) e ∙ sym (digits y (valueIn B ys) (hy zero)) in
+      let tail : xs ≡ ys = value-unique xs ys (λ i. hx (suc i)) (λ i. hy (suc i)) (omega arith) rest in
+      cc
 
 -- a power of the base, in bits
 pub base-pow : (n : ℕ) → (2 ^ 64) ^ n ≡ 2 ^ (64 * n)

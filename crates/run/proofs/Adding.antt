@@ -1,0 +1,93 @@
+-- Laws of `Added` and `Subtracted`: where nothing is left to add, and that two answers that meet the same promise agree. Assumes nothing.
+use mathlib.Core.Path.{_≡_, refl, sym, ap, _∙_}
+use mathlib.Core.Bool.{Bool}
+use mathlib.Core.List.{List, [], _++_}
+use Prim.Native.Nat.{ℕ, _+_, _-_, _*_, _^_, _≤_, _<_}
+use native.Mathlib.Nat.{pow-zero, add-assoc, add-sub-of-le}
+use native.Mathlib.Omega.{arith}
+use lib.ListN.{length, take, drop, take-append-drop, length-drop}
+use lib.Pow.{pow-add}
+use lib.Seq.{getD-drop}
+use Rattle.limb.specs.Carry.{bit}
+use Rattle.limb.specs.Value.{valueIn, Below}
+use Rattle.limb.proofs.Carry.{sum-unique, difference-unique}
+use Rattle.limb.proofs.Value.{value-nil, value-split, value-lt, value-unique}
+use Rattle.run.specs.Sum.{Added, Subtracted, AddedAt, SubtractedAt}
+
+-- no limb of the operand met the target yet: k is worth k at its bottom
+pub none-added : (B : ℕ) (t o : List ℕ) (k : ℕ) → valueIn B t + B ^ 0 * k ≡ valueIn B t + valueIn B (take 0 o) + k
+none-added B t o k = rw (pow-zero, value-nil) (omega arith)
+
+-- into no limbs: the carry goes straight out
+pub nothing-added : (o : List ℕ) (carry : Bool) → Added [] o carry [] carry
+nothing-added o carry = record { same-length = refl; value = none-added (2 ^ 64) [] o (bit carry) }
+
+pub nothing-subtracted : (o : List ℕ) (borrow : Bool) → Subtracted [] o borrow [] borrow
+nothing-subtracted o borrow = record { same-length = refl; value = sym (none-added (2 ^ 64) [] o (bit borrow)) }
+
+-- two answers that meet the promise of a sum, or of a difference, are one
+module _ (xs ys : List ℕ) (p q : Bool) (hx : Below (2 ^ 64) xs) (hy : Below (2 ^ 64) ys) (before operand : List ℕ) (carry : Bool) where
+  below-top : (l : List ℕ) → Below (2 ^ 64) l → length l ≡ length before → valueIn (2 ^ 64) l < (2 ^ 64) ^ length before
+  below-top l h e = rw e at (value-lt (2 ^ 64) l h)
+
+  pub added-unique : Added before operand carry xs p → Added before operand carry ys q → (xs ≡ ys) × (p ≡ q)
+  added-unique a b =
+      let e = sum-unique ((2 ^ 64) ^ length before) (valueIn (2 ^ 64) xs) (valueIn (2 ^ 64) ys) p q
+      (below-top xs hx (a .same-length)) (below-top ys hy (b .same-length)) (a .value ∙ sym (b .value)) in
+      (value-unique (2 ^ 64) xs ys hx hy (a .same-length ∙ sym (b .same-length)) (e .0), e .1)
+
+  pub subtracted-unique : Subtracted before operand carry xs p → Subtracted before operand carry ys q → (xs ≡ ys) × (p ≡ q)
+  subtracted-unique a b =
+      let e = difference-unique ((2 ^ 64) ^ length before) (valueIn (2 ^ 64) xs) (valueIn (2 ^ 64) ys)
+      (valueIn (2 ^ 64) (take (length before) operand) + bit carry) (valueIn (2 ^ 64) before) p q
+      (below-top xs hx (a .same-length)) (below-top ys hy (b .same-length)) (sym (add-assoc _ _ _) ∙ a .value) (sym (add-assoc _ _ _) ∙ b .value) in
+      (value-unique (2 ^ 64) xs ys hx hy (a .same-length ∙ sym (b .same-length)) (e .0), e .1)
+
+-- the same where the part of the target from limb start on is worked on
+module _ (start : ℕ) (xs ys : List ℕ) (p q : Bool) (hx : Below (2 ^ 64) xs) (hy : Below (2 ^ 64) ys) (before operand : List ℕ) (carry : Bool) where
+  below-part : (l : List ℕ) → Below (2 ^ 64) l → Below (2 ^ 64) (drop start l)
+  below-part l h i = rw (getD-drop start l i 0) (h (start + i))
+
+  joined : take start xs ≡ take start ys → drop start xs ≡ drop start ys → xs ≡ ys
+  joined e f = sym (take-append-drop start xs) ∙ ap (λ (l : List ℕ). l ++ drop start xs) e ∙ ap (λ (l : List ℕ). take start ys ++ l) f ∙ take-append-drop start ys
+
+  pub added-at-unique : AddedAt start before operand carry xs p → AddedAt start before operand carry ys q → (xs ≡ ys) × (p ≡ q)
+  added-at-unique a b =
+      let e = added-unique (drop start xs) (drop start ys) p q (below-part xs hx) (below-part ys hy) (drop start before) operand carry (a .part) (b .part) in
+      (joined (a .below ∙ sym (b .below)) (e .0), e .1)
+
+  pub subtracted-at-unique : SubtractedAt start before operand carry xs p → SubtractedAt start before operand carry ys q → (xs ≡ ys) × (p ≡ q)
+  subtracted-at-unique a b =
+      let e = subtracted-unique (drop start xs) (drop start ys) p q (below-part xs hx) (below-part ys hy) (drop start before) operand carry (a .part) (b .part) in
+      (joined (a .below ∙ sym (b .below)) (e .0), e .1)
+
+-- the value of a target whose part from limb start on is worked on: l is what stays below, h and g the part before and after
+module _ (P Q l h g o k out before after top : ℕ) (eb : before ≡ l + P * h) (ea : after ≡ l + P * g) (et : top ≡ P * Q) where
+  raised-sum : g + Q * out ≡ h + o + k → after + top * out ≡ before + P * (o + k)
+  raised-sum e = omega (arith, ap (λ (m : ℕ). P * m) e, ap (λ (m : ℕ). m * out) et)
+
+  raised-difference : g + o + k ≡ h + Q * out → after + P * (o + k) ≡ before + top * out
+  raised-difference e = omega (arith, ap (λ (m : ℕ). P * m) e, ap (λ (m : ℕ). m * out) et)
+
+-- a sum into the part from limb start on, and a difference, said of the whole target
+module _ (start : ℕ) (before operand : List ℕ) (carry : Bool) (after : List ℕ) (out : Bool) (fits : start ≤ length before) where
+  abbrev B : ℕ
+  B = 2 ^ 64
+
+  part-split : take start after ≡ take start before → valueIn B after ≡ valueIn B (take start before) + B ^ start * valueIn B (drop start after)
+  part-split e = value-split B start after ∙ ap (λ (l : List ℕ). valueIn B l + B ^ start * valueIn B (drop start after)) e
+
+  top-split : B ^ length before ≡ B ^ start * B ^ (length before - start)
+  top-split = ap (λ (m : ℕ). B ^ m) (sym (add-sub-of-le fits)) ∙ pow-add B start (length before - start)
+
+  pub added-at-value : AddedAt start before operand carry after out
+      → valueIn B after + B ^ length before * bit out ≡ valueIn B before + B ^ start * (valueIn B (take (length before - start) operand) + bit carry)
+  added-at-value a =
+      raised-sum (B ^ start) (B ^ (length before - start)) _ _ _ _ (bit carry) (bit out) _ _ _ (value-split B start before) (part-split (a .below)) top-split
+      (rw length-drop at (a .part .value))
+
+  pub subtracted-at-value : SubtractedAt start before operand carry after out
+      → valueIn B after + B ^ start * (valueIn B (take (length before - start) operand) + bit carry) ≡ valueIn B before + B ^ length before * bit out
+  subtracted-at-value a =
+      raised-difference (B ^ start) (B ^ (length before - start)) _ _ _ _ (bit carry) (bit out) _ _ _ (value-split B start before) (part-split (a .below)) top-split
+      (rw length-drop at (a .part .value))

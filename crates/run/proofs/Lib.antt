@@ -1,0 +1,5 @@
+pub mod Adding
+pub mod LowBits
+pub mod Parts
+pub mod Trimming
+pub mod Windows

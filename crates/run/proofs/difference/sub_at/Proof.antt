@@ -1,0 +1,60 @@
+-- `run::sub_at` is right since the part from the start on is worked on alone and put back over the limbs below it. Assumes nothing.
+use mathlib.Core.Path.{_≡_, refl}
+use mathlib.Core.List.{List, []}
+use Prim.Native.Nat.{ℕ, _-_, _≤_}
+use native.Mathlib.Omega.{arith}
+use lib.ListN.{length, drop, drop-of-length-le}
+use borrow.Rule.Slice.PartMut.{take-put}
+use Rattle.run.proofs.Adding.{nothing-subtracted}
+use Rattle.run.proofs.Parts.{part-is, drop-put}
+use borrow.Author.Needs.{needs}
+use Rattle.run.proofs.difference.sub_at.Statement.{statement}
+use Rattle.run.proofs.difference.sub_at.Tie as tie
+
+mul-sub-into : tie.Need-mul-sub-into
+mul-sub-into c = search needs
+
+sub-sub-into : tie.Need-sub-sub-into
+sub-sub-into c = search needs
+
+part-sub-into-start : tie.Need-part-sub-into-start
+part-sub-into-start c = search needs
+
+part-sub-into-end : tie.Need-part-sub-into-end
+part-sub-into-end c = search needs
+
+sub-into-requires : tie.Need-sub-into-requires
+sub-into-requires c κs = search needs
+
+same-length : tie.Need-same-length
+same-length c = search needs
+
+returns : tie.Need-returns
+returns c =
+    let g = c .before .before .before .before .before .before .before .args in
+    let t : List ℕ = g .target .now in
+    let last : List ℕ = c .before .before .sub-into .last .0 in
+    let h : g .start ≤ length t = omega arith in
+    record {
+      below = take-put (g .start) (length t - g .start) t last h;
+      part = rw (drop-put t last (g .start) h) (rw (part-is t (g .start)) at (c .before .before .sub-into .ensures));
+    }
+
+returns-2 : tie.Need-returns-2
+returns-2 c =
+    let g = c .before .before .before .args in
+    let none : drop (g .start) (g .target .now) ≡ [] = drop-of-length-le (g .target .now) (c .if1 .left) in
+    record { below = refl; part = rw none (nothing-subtracted (g .operand .now) (g .borrow)) }
+
+pub sub-at-spec : {M : Type 1} → statement M
+sub-at-spec =
+    tie.close
+    (tie.spec
+    mul-sub-into
+    sub-sub-into
+    part-sub-into-start
+    part-sub-into-end
+    sub-into-requires
+    same-length
+    returns
+    returns-2)

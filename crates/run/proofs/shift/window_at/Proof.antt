@@ -1,0 +1,46 @@
+-- `run::shift::window_at` is right since 64 bits from a bit of a limb on lie in that limb and the next, and share no bit there. Assumes nothing.
+use mathlib.Core.Path.{_∙_}
+use Rattle.run.proofs.Windows.{whole, across}
+use borrow.Author.Needs.{needs}
+use Rattle.run.proofs.shift.window_at.Statement.{statement}
+use Rattle.run.proofs.shift.window_at.Tie as tie
+
+limb-at-requires : tie.Need-limb-at-requires
+limb-at-requires c κs = search needs
+
+limb-after-requires : tie.Need-limb-after-requires
+limb-after-requires c κs = search needs
+
+shr-result : tie.Need-shr-result
+shr-result c = search needs
+
+sub-result : tie.Need-sub-result
+sub-result c = search needs
+
+shl-result : tie.Need-shl-result
+shl-result c = search needs
+
+returns : tie.Need-returns
+returns c =
+    let g = c .before .before .before .args in
+    c .before .limb-at .ensures
+    ∙ whole (g .s .now) (g .limbs) (g .bits) (c .before .before .before .pre) (λ i. c .before .before .shared-slice-known .given i .fits) (c .if1 .taken)
+
+returns-2 : tie.Need-returns-2
+returns-2 c =
+    let b = c .before .before in
+    let g = b .before .before .args in
+    rw (b .limb-at .ensures, c .limb-after .ensures)
+    (across (g .s .now) (g .limbs) (g .bits) (b .before .before .pre) (λ i. b .before .shared-slice-known .given i .fits))
+
+pub window-at-spec : {M : Type 1} → statement M
+window-at-spec =
+    tie.close
+    (tie.spec
+    limb-at-requires
+    limb-after-requires
+    shr-result
+    sub-result
+    shl-result
+    returns
+    returns-2)

@@ -1,0 +1,3 @@
+pub mod LowLimbs
+pub mod Sum
+pub mod Trimmed

@@ -1,0 +1,28 @@
+-- What adding a run of limbs into another, or taking it off, leaves. Definitions only.
+-- Document 01, "Limbs": a sum drops what passes the top of the target, and the carry out is 1 exactly when something was dropped.
+use mathlib.Core.Path.{_≡_}
+use mathlib.Core.Bool.{Bool}
+use mathlib.Core.List.{List}
+use Prim.Native.Nat.{ℕ, _+_, _*_, _^_}
+use lib.ListN.{length, take, drop}
+use Rattle.limb.specs.Carry.{bit}
+use Rattle.limb.specs.Value.{valueOf}
+
+-- before + operand + carry is after with the carry out on top. The operand counts as far as the target goes.
+pub record Added (before operand : List ℕ) (carry : Bool) (after : List ℕ) (out : Bool) : Type 0 where
+  pub same-length : length after ≡ length before
+  pub value : valueOf after + (2 ^ 64) ^ length before * bit out ≡ valueOf before + valueOf (take (length before) operand) + bit carry
+
+-- before - operand - borrow is after, with the borrow out on top of before
+pub record Subtracted (before operand : List ℕ) (borrow : Bool) (after : List ℕ) (out : Bool) : Type 0 where
+  pub same-length : length after ≡ length before
+  pub value : valueOf after + valueOf (take (length before) operand) + bit borrow ≡ valueOf before + (2 ^ 64) ^ length before * bit out
+
+-- the same into the part of the target from limb start on; the limbs below it stay
+pub record AddedAt (start : ℕ) (before operand : List ℕ) (carry : Bool) (after : List ℕ) (out : Bool) : Type 0 where
+  pub below : take start after ≡ take start before
+  pub part : Added (drop start before) operand carry (drop start after) out
+
+pub record SubtractedAt (start : ℕ) (before operand : List ℕ) (borrow : Bool) (after : List ℕ) (out : Bool) : Type 0 where
+  pub below : take start after ≡ take start before
+  pub part : Subtracted (drop start before) operand borrow (drop start after) out

@@ -1,0 +1,38 @@
+// One run of limbs taken off another, in place. The columns are those of sum.rt.
+ghost use lib.ListN.{drop};
+ghost use Rattle.run.specs.Sum.{Subtracted, SubtractedAt};
+use crate::part::limb_at;
+use crate::part::part_from;
+
+// Takes the operand and a borrow off the target, as far as the target goes. Returns the borrow out.
+pub fn sub_into(target: &mut [u64], operand: &[u64], borrow: bool) -> bool
+    ensures { λ r. ⌜ Subtracted (now (target .entry)) (now (operand .entry)) borrow (now (target .exit)) r ⌝ }
+{
+    let mut up = borrow;
+    let mut i = 0;
+    while i < target.len() {
+        let d = limb::sub_borrow(target[i], limb_at(operand, i), up);
+        target[i] = d.difference;
+        up = d.borrow;
+        i += 1;
+    }
+    up
+}
+
+// Takes off the operand's limbs from start on: limb start meets the target's lowest. A start past the end leaves nothing to take off.
+pub fn sub_from(target: &mut [u64], operand: &[u64], start: usize, borrow: bool) -> bool
+    ensures { λ r. ⌜ Subtracted (now (target .entry)) (drop start (now (operand .entry))) borrow (now (target .exit)) r ⌝ }
+{
+    sub_into(target, part_from(operand, start), borrow)
+}
+
+// Takes off the part of the target from limb start on. A start past the end leaves an empty part: the borrow goes straight out.
+pub fn sub_at(target: &mut [u64], start: usize, operand: &[u64], borrow: bool) -> bool
+    ensures { λ r. ⌜ SubtractedAt start (now (target .entry)) (now (operand .entry)) borrow (now (target .exit)) r ⌝ }
+{
+    if start < target.len() {
+        sub_into(&mut target[start..], operand, borrow)
+    } else {
+        borrow
+    }
+}

@@ -1,0 +1,43 @@
+// One run of limbs added into another, in place.
+//
+//     target      t[n-1] ..  t[1]   t[0]
+//     operand      ..  o[2]  o[1]   o[0]       0 past its end; limbs above the target are not looked at
+//     carry                         carry
+//
+ghost use lib.ListN.{drop};
+ghost use Rattle.run.specs.Sum.{Added, AddedAt};
+use crate::part::limb_at;
+use crate::part::part_from;
+
+// Adds the operand and a carry into the target, as far as the target goes. Returns the carry out.
+pub fn add_into(target: &mut [u64], operand: &[u64], carry: bool) -> bool
+    ensures { λ r. ⌜ Added (now (target .entry)) (now (operand .entry)) carry (now (target .exit)) r ⌝ }
+{
+    let mut up = carry;
+    let mut i = 0;
+    while i < target.len() {
+        let s = limb::add_carry(target[i], limb_at(operand, i), up);
+        target[i] = s.sum;
+        up = s.carry;
+        i += 1;
+    }
+    up
+}
+
+// Adds the operand's limbs from start on: limb start meets the target's lowest. A start past the end leaves nothing to add.
+pub fn add_from(target: &mut [u64], operand: &[u64], start: usize, carry: bool) -> bool
+    ensures { λ r. ⌜ Added (now (target .entry)) (drop start (now (operand .entry))) carry (now (target .exit)) r ⌝ }
+{
+    add_into(target, part_from(operand, start), carry)
+}
+
+// Adds into the part of the target from limb start on. A start past the end leaves an empty part: the carry goes straight out.
+pub fn add_at(target: &mut [u64], start: usize, operand: &[u64], carry: bool) -> bool
+    ensures { λ r. ⌜ AddedAt start (now (target .entry)) (now (operand .entry)) carry (now (target .exit)) r ⌝ }
+{
+    if start < target.len() {
+        add_into(&mut target[start..], operand, carry)
+    } else {
+        carry
+    }
+}
