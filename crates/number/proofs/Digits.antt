@@ -10,14 +10,11 @@ use lib.Pow.{pow-pos, pow-add, shr-lt, shl-shr, shl-lt}
 use Rattle.limb.specs.Value.{valueIn, valueOf, Below}
 use Rattle.limb.proofs.Value.{value-lt, base-pow}
 use Rattle.number.specs.Limits.{leastPrecision, limbsFor}
+unfoldable pub use Rattle.number.specs.Limbs.{limbsOf}
 use Rattle.number.specs.Operand.{Operand, mantissa, lastWeight, spareBits, Regular, WellFormed, turned, zeroLike}
 use Rattle.number.proofs.Limits.{two-digits, limbs-hold}
 
 -- ---- the n limbs of v
-
-unfoldable pub limbsOf : ℕ → ℕ → List ℕ
-limbsOf zero v = []
-limbsOf (suc n) v = v % 2 ^ 64 ∷ limbsOf n (v / 2 ^ 64)
 
 pub limbs-count : (n v : ℕ) → length (limbsOf n v) ≡ n
 unfolding limbsOf
