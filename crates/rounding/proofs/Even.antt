@@ -2,7 +2,7 @@
 use mathlib.Core.Path.{_≡_, refl, sym, ap, _∙_, subst}
 use mathlib.Core.Logic.{_⊎_, inl, inr}
 use Prim.Native.Nat.{ℕ, zero, suc, _+_, _-_, _*_, _/_, _%_, _^_, _≤_, _<_, compare, Ordering, Ordering·lt, Ordering·eq, Ordering·gt}
-use native.Mathlib.Nat.{suc-mul, le-refl, le-trans, le-of-eq, le-of-lt, lt-of-lt-of-le, le-antisymm, mul-assoc, mul-comm, mul-le-mul-right, mul-lt-mul-of-pos-right, pow-suc, mul-mod-left, le-div-iff-mul-le}
+use native.Mathlib.Nat.{suc-mul, le-refl, le-trans, le-of-eq, lt-of-lt-of-le, le-antisymm, mul-assoc, mul-le-mul-right, mul-lt-mul-of-pos-right, pow-suc, mul-mod-left, le-div-iff-mul-le}
 use native.Mathlib.Omega.{arith}
 use lib.Pow.{pow-pos, pow-mono, pow-add, pow-lt}
 use lib.Ieee.{size, nearest}
@@ -12,7 +12,7 @@ use lib.Ieee.Nearest.{nearest-ge}
 use Rattle.rounding.specs.Mode.{near}
 use Rattle.rounding.specs.Select.{quotient, unit, chosen, onGrid}
 use Rattle.rounding.specs.Answer.{digits}
-use Rattle.rounding.proofs.Selection.{Rep, gap, parts, rest-lt, digits-lt, reaches, chosen-rep}
+use Rattle.rounding.proofs.Selection.{Rep, gap, parts, rest-lt, digits-lt, reaches}
 use Rattle.rounding.proofs.Order.{le-or-lt, dist, Cmp, cmp, mul-one-one}
 use Rattle.rounding.proofs.Between.{digits-exact}
 

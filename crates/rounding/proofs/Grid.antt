@@ -1,9 +1,9 @@
 -- Selection over an arbitrary unit u: whatever the numbers to select from are, if near m they are the multiples of u,
 -- `onGrid` selects the largest not above m, the smallest not below, and the closest. p digits are one choice of u. Assumes nothing.
-use mathlib.Core.Path.{_≡_, refl, sym, ap, _∙_, subst}
+use mathlib.Core.Path.{_≡_, refl, sym, ap, subst}
 use mathlib.Core.Logic.{_⊎_, inl, inr}
-use Prim.Native.Nat.{ℕ, zero, suc, _+_, _-_, _*_, _/_, _%_, _^_, _≤_, _<_, compare, Ordering, Ordering·lt, Ordering·eq, Ordering·gt}
-use native.Mathlib.Nat.{le-of-suc-le-suc, le-refl, le-trans, le-of-eq, le-of-lt, le-antisymm, mul-le-mul-right, suc-mul, div-add-mod', mod-lt, le-div-iff-mul-le, div-lt-iff-lt-mul, div-mul-le-self, lt-div-mul-add, eq-or-lt-of-le}
+use Prim.Native.Nat.{ℕ, zero, suc, _+_, _-_, _*_, _/_, _%_, _≤_, _<_, compare, Ordering, Ordering·lt, Ordering·eq, Ordering·gt}
+use native.Mathlib.Nat.{le-of-suc-le-suc, le-refl, le-trans, le-of-eq, le-of-lt, le-antisymm, mul-le-mul-right, suc-mul, div-add-mod', mod-lt, le-div-iff-mul-le, div-lt-iff-lt-mul, div-mul-le-self, lt-div-mul-add}
 use native.Mathlib.Omega.{arith}
 use lib.Ieee.{nearest}
 use lib.Ieee.Fits.{nearest-le}

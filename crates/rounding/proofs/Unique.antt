@@ -1,12 +1,12 @@
 -- What the paper asks of the rounded number leaves one choice, and it is `chosen`.
-use mathlib.Core.Path.{_≡_, refl, sym, ap, _∙_, subst}
+use mathlib.Core.Path.{_≡_, refl, sym, ap, _∙_}
 use mathlib.Core.Logic.{_⊎_, inl, inr}
 use Prim.Native.Nat.{ℕ, zero, suc, _+_, _-_, _*_, _/_, _%_, _^_, _≤_, _<_, compare, Ordering, Ordering·lt, Ordering·eq, Ordering·gt}
-use native.Mathlib.Nat.{le-refl, le-trans, le-antisymm, suc-mul, pow-succ'}
+use native.Mathlib.Nat.{le-trans, le-antisymm, suc-mul, pow-succ'}
 use native.Mathlib.Decide.{ℕ-discrete}
 use native.Mathlib.Omega.{arith}
 use lib.Ieee.{size, nearest}
-use Rattle.rounding.specs.Mode.{Way, near, under, over}
+use Rattle.rounding.specs.Mode.{near, under, over}
 use Rattle.rounding.specs.Select.{quotient, unit, chosen, onGrid}
 use Rattle.rounding.specs.Answer.{digits}
 use Rattle.rounding.proofs.Selection.{Rep, gap, parts, rest-lt, digits-lt, chosen-rep, under-le, under-largest, over-ge, over-smallest, near-closest}

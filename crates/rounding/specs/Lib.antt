@@ -2,3 +2,4 @@ pub mod Mode
 pub mod Select
 pub mod Answer
 pub mod Sum
+pub mod Paper
