@@ -7,3 +7,4 @@ pub mod Scale
 pub mod Even
 pub mod Unique
 pub mod Paper
+pub mod Range

@@ -73,3 +73,9 @@ abbrev pub Sign : Ordering → Bool → ℕ → Bool → ℕ → Type 0
 Sign Ordering·lt t c n m = Le n m t c → ⊥
 Sign Ordering·eq t c n m = Same t c n m
 Sign Ordering·gt t c n m = Le t c n m → ⊥
+
+-- "worth ± 0.b1 b2 .. bp × 2^e with b1 = 1": c, in units of 2 ^ s, as p digits d and an exponent e
+pub record Written (p s c d e : ℕ) : Type 0 where
+  pub first : 2 ^ (p - 1) ≤ d
+  pub few : d < 2 ^ p
+  pub worth : d * 2 ^ e ≡ c * 2 ^ (p + s)
