@@ -8,3 +8,4 @@ pub mod Even
 pub mod Unique
 pub mod Paper
 pub mod Range
+pub mod Units

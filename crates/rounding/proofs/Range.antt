@@ -2,7 +2,7 @@
 use mathlib.Core.Path.{_≡_, refl, sym, ap, _∙_}
 use mathlib.Core.Logic.{_⊎_, inl, inr, _↔_}
 use mathlib.Core.Bool.{Bool}
-use Prim.Native.Nat.{ℕ, zero, suc, _+_, _-_, _*_, _/_, _^_, _≤_, _<_, compare, Ordering}
+use Prim.Native.Nat.{ℕ, zero, suc, _+_, _-_, _*_, _^_, _≤_, _<_, compare, Ordering}
 use native.Mathlib.Nat.{le-trans, le-of-eq, le-antisymm, lt-of-lt-of-le, mul-assoc, mul-le-mul-right, mul-lt-mul-of-pos-right, le-div-iff-mul-le, div-lt-iff-lt-mul}
 use native.Mathlib.Omega.{arith}
 use lib.Pow.{pow-pos, pow-mono, pow-add}
@@ -127,6 +127,18 @@ module _ (w : Way) (p s : ℕ) (n : Bool) (m : ℕ) where
   pub accepted : leastExponent ≤ size (chosen w p m) + s → size (chosen w p m) + s ≤ mostExponent → rounded w p s n m ≡ kept p s n m (chosen w p m)
   unfolding c
   accepted h k = is ∙ is-in (size c + s) (kept p s n m c) h k
+
+  pub accepted-only : (t : Bool) (e d : ℕ) (o : Ordering) → rounded w p s n m ≡ number t e d o → (kept p s n m (chosen w p m) ≡ number t e d o) × ((leastExponent ≤ e) × (e ≤ mostExponent))
+  unfolding c
+  accepted-only t e d o h = go (place (size c + s))
+    where
+      go : Place (size c + s) → (kept p s n m c ≡ number t e d o) × ((leastExponent ≤ e) × (e ≤ mostExponent))
+      go (above k) = let f = is-large (size c + s) (kept p s n m c) k in let z : _≡_ {A = ℕ} 0 1 = cc is in absurd (omega arith)
+      go (below k) = let f = is-small (size c + s) (kept p s n m c) k in let z : _≡_ {A = ℕ} 0 1 = cc is in absurd (omega arith)
+      go (inside k l) =
+          let f : kept p s n m c ≡ number t e d o = sym (accepted k l) ∙ h in
+          let z : size c + s ≡ e = cc in
+          (f, (rw (← z) k, rw (← z) l))
 
 -- what a mode asks for in words is what the answer holds
 pub rounded-by-paper : (o : Mode) (p s : ℕ) (n : Bool) (m c : ℕ) → 2 ≤ p → 0 < m → Asks o p n m n c → rounded (way o n) p s n m ≡ ranged (size c + s) (kept p s n m c)
