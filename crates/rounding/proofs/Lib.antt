@@ -9,3 +9,4 @@ pub mod Unique
 pub mod Paper
 pub mod Range
 pub mod Units
+pub mod Zeros
