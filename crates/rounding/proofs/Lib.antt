@@ -10,3 +10,4 @@ pub mod Paper
 pub mod Range
 pub mod Units
 pub mod Zeros
+pub mod Marked

@@ -3,3 +3,4 @@ pub mod Select
 pub mod Answer
 pub mod Sum
 pub mod Paper
+pub mod Marked
