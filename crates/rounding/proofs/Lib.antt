@@ -11,3 +11,5 @@ pub mod Range
 pub mod Units
 pub mod Zeros
 pub mod Marked
+pub mod Modes
+pub mod Summed

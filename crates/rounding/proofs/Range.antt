@@ -2,7 +2,7 @@
 use mathlib.Core.Path.{_≡_, refl, sym, ap, _∙_}
 use mathlib.Core.Logic.{_⊎_, inl, inr, _↔_}
 use mathlib.Core.Bool.{Bool}
-use Prim.Native.Nat.{ℕ, zero, suc, _+_, _-_, _*_, _^_, _≤_, _<_, compare, Ordering}
+use Prim.Native.Nat.{ℕ, zero, suc, _+_, _-_, _*_, _^_, _≤_, _<_, Ordering}
 use native.Mathlib.Nat.{le-trans, le-of-eq, le-antisymm, lt-of-lt-of-le, mul-assoc, mul-le-mul-right, mul-lt-mul-of-pos-right, le-div-iff-mul-le, div-lt-iff-lt-mul}
 use native.Mathlib.Omega.{arith}
 use lib.Pow.{pow-pos, pow-mono, pow-add}
@@ -11,8 +11,8 @@ use lib.Ieee.Digits.{size-lt, size-reaches}
 use Rattle.number.specs.Limits.{leastExponent, mostExponent}
 use Rattle.rounding.specs.Mode.{Mode, Way, way}
 use Rattle.rounding.specs.Select.{chosen}
-use Rattle.rounding.specs.Answer.{Answer, number, tooLarge, tooSmall, ranged, digits, signed, rounded}
-use Rattle.rounding.specs.Paper.{Asks, Written}
+use Rattle.rounding.specs.Answer.{number, tooLarge, tooSmall, ranged, digits, rounded}
+use Rattle.rounding.specs.Paper.{Asks, Written, kept}
 use Rattle.rounding.proofs.Order.{le-or-lt, mul-one-one}
 use Rattle.rounding.proofs.Selection.{Rep}
 use Rattle.rounding.proofs.Between.{is-large, is-small, is-in, digits-exact}
@@ -77,9 +77,6 @@ written-unique p s c d x e y P v w = go (le-or-lt x y) (le-or-lt y x)
     go (inl h) (inr k) = absurd (clash (d * 2 ^ x) (e * 2 ^ y) (lower p d e x y P (v .few) (w .first) k) same)
 
 -- ---- the range
-
-abbrev pub kept : ℕ → ℕ → Bool → ℕ → ℕ → Answer
-kept p s n m c = number n (size c + s) (digits p c) (signed n (compare c m))
 
 -- where an exponent lies
 data Place (e : ℕ) : Type 0 where

@@ -15,12 +15,13 @@ use Rattle.rounding.specs.Mode.{Mode, way}
 use Rattle.rounding.specs.Select.{chosen}
 use Rattle.rounding.specs.Answer.{zeroOf, number, digits, signed, rounded, answer}
 use Rattle.rounding.specs.Sum.{scale, amount, share, cancelled, zeroSign, sumAt, add, subtract, reround}
+use Rattle.rounding.specs.Paper.{kept}
 use Rattle.rounding.proofs.Order.{Cmp, cmp, compare-at}
 use Rattle.rounding.proofs.Ends.{plus, minus, nought, regular}
 use Rattle.rounding.proofs.Selection.{multiple}
 use Rattle.rounding.proofs.Even.{size-is}
 use Rattle.rounding.proofs.Scale.{exact}
-use Rattle.rounding.proofs.Range.{kept, accepted}
+use Rattle.rounding.proofs.Range.{accepted}
 
 -- ---- what an operand adds to either sign
 

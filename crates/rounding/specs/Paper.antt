@@ -1,11 +1,14 @@
 -- The four modes as the paper and document 01 put them, on signed values: what is asked of the selected number, with no word on how it is found.
 -- A value is a sign and a size: `n m` is - m where n is true, else m; the two zeros are one value. Definitions only.
-use Prim.Native.Nat.{ℕ, _+_, _-_, _*_, _%_, _^_, _≤_, _<_, Ordering, Ordering·lt, Ordering·eq, Ordering·gt}
+use Prim.Native.Nat.{ℕ, _+_, _-_, _*_, _%_, _^_, _≤_, _<_, compare, Ordering, Ordering·lt, Ordering·eq, Ordering·gt}
 use mathlib.Core.Path.{_≡_}
 use mathlib.Core.Logic.{_⊎_}
-use mathlib.Core.Bool.{Bool, true, false}
+use mathlib.Core.Bool.{Bool, true, false, not}
+use lib.Ieee.{size}
+use Rattle.number.specs.Operand.{Operand}
 use Rattle.rounding.specs.Mode.{Mode, nearest, zeroward, upward, downward}
-use Rattle.rounding.specs.Answer.{digits}
+use Rattle.rounding.specs.Answer.{Answer, number, digits, signed}
+use Rattle.rounding.specs.Sum.{share}
 
 -- a p-digit number: some digits, at most p of them, and a weight. "The exponent is unbounded while selecting."
 pub record Rep (p n : ℕ) : Type 0 where
@@ -79,3 +82,11 @@ pub record Written (p s c d e : ℕ) : Type 0 where
   pub first : 2 ^ (p - 1) ≤ d
   pub few : d < 2 ^ p
   pub worth : d * 2 ^ e ≡ c * 2 ^ (p + s)
+
+-- the answer where c is selected for n m, in units of 2 ^ s, and accepted: its sign, exponent, digits and ternary value
+abbrev pub kept : ℕ → ℕ → Bool → ℕ → ℕ → Answer
+kept p s n m c = number n (size c + s) (digits p c) (signed n (compare c m))
+
+-- x + y is n m in units of 2 ^ s: what has the sign n is m more than what has the other
+abbrev pub Exact : ℕ → Operand → Operand → Bool → ℕ → Type 0
+Exact s x y n m = share n s x + share n s y ≡ m + (share (not n) s x + share (not n) s y)
