@@ -13,3 +13,4 @@ pub mod Zeros
 pub mod Marked
 pub mod Modes
 pub mod Summed
+pub mod Formed

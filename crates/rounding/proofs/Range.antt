@@ -8,10 +8,10 @@ use native.Mathlib.Omega.{arith}
 use lib.Pow.{pow-pos, pow-mono, pow-add}
 use lib.Ieee.{size}
 use lib.Ieee.Digits.{size-lt, size-reaches}
-use Rattle.number.specs.Limits.{leastExponent, mostExponent}
+use Rattle.number.specs.Limits.{bias, leastExponent, mostExponent}
 use Rattle.rounding.specs.Mode.{Mode, Way, way}
 use Rattle.rounding.specs.Select.{chosen}
-use Rattle.rounding.specs.Answer.{number, tooLarge, tooSmall, ranged, digits, rounded}
+use Rattle.rounding.specs.Answer.{Answer, number, tooLarge, tooSmall, ranged, digits, rounded}
 use Rattle.rounding.specs.Paper.{Asks, Written, kept}
 use Rattle.rounding.proofs.Order.{le-or-lt, mul-one-one}
 use Rattle.rounding.proofs.Selection.{Rep}
@@ -91,6 +91,11 @@ place e = go (le-or-lt e mostExponent) (le-or-lt leastExponent e)
     go (inr h) k = above h
     go (inl h) (inr k) = below k
     go (inl h) (inl k) = inside k h
+
+-- the ends of the range are in it, and one step further is out
+pub range-ends : (a : Answer) → (ranged mostExponent a ≡ a) × ((ranged (suc mostExponent) a ≡ tooLarge) × ((ranged leastExponent a ≡ a) × (ranged (leastExponent - 1) a ≡ tooSmall)))
+unfolding ranged mostExponent leastExponent bias
+range-ends a = (refl, (refl, (refl, refl)))
 
 module _ (w : Way) (p s : ℕ) (n : Bool) (m : ℕ) where
   c : ℕ
