@@ -8,9 +8,10 @@ pub mod Even
 pub mod Unique
 pub mod Paper
 pub mod Range
+pub mod Summed
 pub mod Units
 pub mod Zeros
+pub mod Reround
+pub mod Formed
 pub mod Marked
 pub mod Modes
-pub mod Summed
-pub mod Formed

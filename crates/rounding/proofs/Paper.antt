@@ -10,7 +10,7 @@ use lib.Pow.{pow-pos, pow-lt}
 use Rattle.rounding.specs.Mode.{Mode, nearest, zeroward, upward, downward, near, under, way}
 use Rattle.rounding.specs.Select.{chosen}
 use Rattle.rounding.specs.Answer.{digits, signed}
-use Rattle.rounding.specs.Paper.{Same, Down, Up, TowardZero, Nearest, Asks, Sign}
+use Rattle.rounding.specs.Paper.{Same, Down, Up, ToZero, Nearest, Asks, Sign}
 pub use Rattle.rounding.specs.Paper.{Le, apart}
 use Rattle.rounding.proofs.Selection.{Rep, chosen-rep, under-le, under-largest, over-ge, over-smallest, near-closest, chosen-mono}
 use Rattle.rounding.proofs.Order.{dist, Cmp, cmp}
@@ -82,7 +82,7 @@ module _ (p : ℕ) (n : Bool) (m : ℕ) (P : 0 < p) (M : 0 < m) where
   up = record { fits = fits upward; notBelow = up-above p n m; smallest = up-smallest p n m P M }
 
 -- what is not above in size is one of the two, and no larger than the other
-toward-zero : (p : ℕ) (n : Bool) (m : ℕ) → 0 < p → 0 < m → TowardZero p n m n (selected zeroward p n m)
+toward-zero : (p : ℕ) (n : Bool) (m : ℕ) → 0 < p → 0 < m → ToZero p n m n (selected zeroward p n m)
 unfolding selected way
 toward-zero p false m P M = record { one = inl (down p false m P M); nearer = nearer }
   where
@@ -148,8 +148,8 @@ module _ (p : ℕ) (n : Bool) (m j : ℕ) (P : 2 ≤ p) (M : 0 < m) where
   pub selected-is-up : Up p n (m * 2 ^ j) n (selected upward p n m * 2 ^ j)
   selected-is-up = subst (Up p n (m * 2 ^ j) n) (same upward) (up p n (m * 2 ^ j) one finer)
 
-  pub selected-is-toward-zero : TowardZero p n (m * 2 ^ j) n (selected zeroward p n m * 2 ^ j)
-  selected-is-toward-zero = subst (TowardZero p n (m * 2 ^ j) n) (same zeroward) (toward-zero p n (m * 2 ^ j) one finer)
+  pub selected-is-toward-zero : ToZero p n (m * 2 ^ j) n (selected zeroward p n m * 2 ^ j)
+  selected-is-toward-zero = subst (ToZero p n (m * 2 ^ j) n) (same zeroward) (toward-zero p n (m * 2 ^ j) one finer)
 
   pub selected-is-nearest : Nearest p n (m * 2 ^ j) n (selected nearest p n m * 2 ^ j)
   selected-is-nearest = subst (Nearest p n (m * 2 ^ j) n) (same nearest) (closest-even p n (m * 2 ^ j) P finer)
@@ -176,7 +176,7 @@ up-unique p true m true c P M d = (refl, under-unique p m c P (d .fits) (d .notB
 up-unique p false m true c P M d = let h = d .notBelow in absurd (omega arith)
 up-unique p true m false c P M d = let h = d .smallest true 1 (one-digit p P) M in absurd (omega arith)
 
-pub toward-zero-unique : (p : ℕ) (n : Bool) (m : ℕ) (t : Bool) (c : ℕ) → 0 < p → 0 < m → TowardZero p n m t c → (t ≡ n) × (c ≡ selected zeroward p n m)
+pub toward-zero-unique : (p : ℕ) (n : Bool) (m : ℕ) (t : Bool) (c : ℕ) → 0 < p → 0 < m → ToZero p n m t c → (t ≡ n) × (c ≡ selected zeroward p n m)
 toward-zero-unique p n m t c P M d =
     let z = toward-zero p n m P M in
     (sign (d .one), le-antisymm (d .nearer n (selected zeroward p n m) (z .one)) (z .nearer t c (d .one)))

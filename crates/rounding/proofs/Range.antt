@@ -1,5 +1,5 @@
 -- Refusals 6 and 7 go by the selected exponent, and what is not refused is the selected number, written with p digits of which the first is 1.
-use mathlib.Core.Path.{_≡_, refl, sym, ap, _∙_}
+use mathlib.Core.Path.{_≡_, refl, sym, ap, _∙_, subst}
 use mathlib.Core.Logic.{_⊎_, inl, inr, _↔_}
 use mathlib.Core.Bool.{Bool}
 use Prim.Native.Nat.{ℕ, zero, suc, _+_, _-_, _*_, _^_, _≤_, _<_, Ordering}
@@ -14,7 +14,8 @@ use Rattle.rounding.specs.Select.{chosen}
 use Rattle.rounding.specs.Answer.{Answer, number, tooLarge, tooSmall, ranged, digits, rounded}
 use Rattle.rounding.specs.Paper.{Asks, Written, kept}
 use Rattle.rounding.proofs.Order.{le-or-lt, mul-one-one}
-use Rattle.rounding.proofs.Selection.{Rep}
+use Rattle.rounding.proofs.Selection.{Rep, chosen-rep}
+use Rattle.rounding.proofs.Scale.{chosen-pos}
 use Rattle.rounding.proofs.Between.{is-large, is-small, is-in, digits-exact}
 use Rattle.rounding.proofs.Paper.{selected, asked-unique}
 
@@ -141,6 +142,15 @@ module _ (w : Way) (p s : ℕ) (n : Bool) (m : ℕ) where
           let f : kept p s n m c ≡ number t e d o = sym (accepted k l) ∙ h in
           let z : size c + s ≡ e = cc in
           (f, (rw (← z) k, rw (← z) l))
+
+-- an accepted number has p digits, the first of them 1, and is worth what is selected
+pub accepted-written : (w : Way) (p s : ℕ) (n : Bool) (m : ℕ) (t : Bool) (e d : ℕ) (o : Ordering) → 0 < p → 0 < m → rounded w p s n m ≡ number t e d o → Written p s (chosen w p m) d e
+accepted-written w p s n m t e d o P M h =
+    let c = chosen w p m in
+    let k = accepted-only w p s n m t e d o h .0 in
+    let x : size c + s ≡ e = cc in
+    let y : digits p c ≡ d = cc in
+    subst (λ (a : ℕ). Written p s c a e) y (subst (Written p s c (digits p c)) x (written p s c P (chosen-pos w p m P M) (chosen-rep w p m P)))
 
 -- what a mode asks for in words is what the answer holds
 pub rounded-by-paper : (o : Mode) (p s : ℕ) (n : Bool) (m c : ℕ) → 2 ≤ p → 0 < m → Asks o p n m n c → rounded (way o n) p s n m ≡ ranged (size c + s) (kept p s n m c)

@@ -39,7 +39,7 @@ apart true a true b = dist a b
 apart false a true b = a + b
 apart true a false b = a + b
 
--- The exact value is n m, the selected one t c; b k goes over all p-digit numbers.
+-- ---- the four modes: the exact value is n m, the selected one t c, and b k goes over all p-digit numbers
 
 -- "Down selects the largest p-bit number not above the exact value"
 pub record Down (p : ℕ) (n : Bool) (m : ℕ) (t : Bool) (c : ℕ) : Type 0 where
@@ -54,7 +54,7 @@ pub record Up (p : ℕ) (n : Bool) (m : ℕ) (t : Bool) (c : ℕ) : Type 0 where
   pub smallest : (b : Bool) (k : ℕ) → Rep p k → Le n m b k → Le t c b k
 
 -- "toward zero the one of these nearer zero"
-pub record TowardZero (p : ℕ) (n : Bool) (m : ℕ) (t : Bool) (c : ℕ) : Type 0 where
+pub record ToZero (p : ℕ) (n : Bool) (m : ℕ) (t : Bool) (c : ℕ) : Type 0 where
   pub one : Down p n m t c ⊎ Up p n m t c
   pub nearer : (b : Bool) (k : ℕ) → Down p n m b k ⊎ Up p n m b k → c ≤ k
 
@@ -67,15 +67,17 @@ pub record Nearest (p : ℕ) (n : Bool) (m : ℕ) (t : Bool) (c : ℕ) : Type 0 
 -- what a mode asks
 abbrev pub Asks : Mode → ℕ → Bool → ℕ → Bool → ℕ → Type 0
 Asks nearest = Nearest
-Asks zeroward = TowardZero
+Asks zeroward = ToZero
 Asks upward = Up
 Asks downward = Down
 
--- "The ternary value is -1, 0 or 1: the sign of selected minus exact": where it is -1 the exact value is not below or at the selected one, and so on
+-- "The ternary value is -1, 0 or 1: the sign of selected minus exact": -1 where not exact ≤ selected, 1 where not selected ≤ exact
 abbrev pub Sign : Ordering → Bool → ℕ → Bool → ℕ → Type 0
 Sign Ordering·lt t c n m = Le n m t c → ⊥
 Sign Ordering·eq t c n m = Same t c n m
 Sign Ordering·gt t c n m = Le t c n m → ⊥
+
+-- ---- the answer
 
 -- "worth ± 0.b1 b2 .. bp × 2^e with b1 = 1": c, in units of 2 ^ s, as p digits d and an exponent e
 pub record Written (p s c d e : ℕ) : Type 0 where
