@@ -1,6 +1,6 @@
 -- What is selected is what the paper asks for, in each mode, against every p-digit number of either sign; and nothing else is.
 -- The exact value is ± m, not zero. Counted in units 2 ^ j times smaller it is ± m × 2 ^ j: as j grows every p-digit number is met.
-use mathlib.Core.Path.{_≡_, refl, sym, subst}
+use mathlib.Core.Path.{_≡_, refl, sym, _∙_, subst}
 use mathlib.Core.Logic.{_⊎_, inl, inr}
 use mathlib.Core.Bool.{Bool, true, false}
 use Prim.Native.Nat.{ℕ, zero, suc, _+_, _*_, _%_, _^_, _≤_, _<_, compare, Ordering, Ordering·lt, Ordering·eq, Ordering·gt}
@@ -18,6 +18,7 @@ use Rattle.rounding.proofs.Scale.{chosen-shift, chosen-pos}
 use Rattle.rounding.proofs.Even.{near-even}
 use Rattle.rounding.proofs.Unique.{under-unique, over-unique, near-unique}
 
+-- what `answer` selects for ± m
 unfoldable pub selected : Mode → ℕ → Bool → ℕ → ℕ
 selected o p n m = chosen (way o n) p m
 
@@ -212,6 +213,12 @@ asked-unique nearest p n m t c P M d = nearest-unique p n m t c P M d
 asked-unique zeroward p n m t c P M d = toward-zero-unique p n m t c (omega arith) M d
 asked-unique upward p n m t c P M d = up-unique p n m t c (omega arith) M d
 asked-unique downward p n m t c P M d = down-unique p n m t c (omega arith) M d
+
+pub asked-once : (o : Mode) (p : ℕ) (n : Bool) (m : ℕ) (t : Bool) (c : ℕ) (b : Bool) (k : ℕ) → 2 ≤ p → 0 < m → Asks o p n m t c → Asks o p n m b k → (t ≡ b) × (c ≡ k)
+asked-once o p n m t c b k P M d e =
+    let x = asked-unique o p n m t c P M d in
+    let y = asked-unique o p n m b k P M e in
+    (x .0 ∙ sym (y .0), x .1 ∙ sym (y .1))
 
 -- ---- a larger value selects one that is no smaller
 

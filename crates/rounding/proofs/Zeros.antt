@@ -44,16 +44,16 @@ share-as b s x e = subst (λ (c : Bool). share c s x ≡ amount s x) e (share-ow
 pub share-not-as : (b : Bool) (s : ℕ) (x : Operand) → x .negative ≡ b → share (not b) s x ≡ 0
 share-not-as b s x e = subst (λ (c : Bool). share (not c) s x ≡ 0) e (share-other s x)
 
--- a sum whose two sides are equal
-level : (o : Mode) (p : ℕ) (x y : Operand) → 0 < p
+-- a sum that is 0 is answered by a zero, with the sign of the one rule
+pub zero-of-zero : (o : Mode) (p : ℕ) (x y : Operand) → 0 < p
     → share false (scale x y) x + share false (scale x y) y ≡ share true (scale x y) x + share true (scale x y) y → add o p x y ≡ zeroOf (zeroSign o (x .negative) (y .negative))
 unfolding add sumAt
-level o p x y P e = nought (zeroSign o (x .negative) (y .negative)) o p (scale x y) P _ _ e
+zero-of-zero o p x y P e = nought (zeroSign o (x .negative) (y .negative)) o p (scale x y) P _ _ e
 
 -- ---- two zeros
 
 zeros : (o : Mode) (p : ℕ) (x y : Operand) → 0 < p → x .isZero ≡ true → y .isZero ≡ true → add o p x y ≡ zeroOf (zeroSign o (x .negative) (y .negative))
-zeros o p x y P u v = level o p x y P (simp (share-zero false (scale x y) x u, share-zero false (scale x y) y v, share-zero true (scale x y) x u, share-zero true (scale x y) y v))
+zeros o p x y P u v = zero-of-zero o p x y P (simp (share-zero false (scale x y) x u, share-zero false (scale x y) y v, share-zero true (scale x y) x u, share-zero true (scale x y) y v))
 
 -- "Two zeros of one sign give that zero"
 pub zeros-of-one-sign : (o : Mode) (p : ℕ) (x y : Operand) → 0 < p → x .isZero ≡ true → y .isZero ≡ true → y .negative ≡ x .negative → add o p x y ≡ zeroOf (x .negative)
@@ -94,7 +94,7 @@ reround-zero o p x P u = zeros-of-one-sign o p x (zeroLike x) P u refl refl
 
 -- "Exact cancellation gives +0 in all four modes."
 pub cancellation : (o : Mode) (p : ℕ) (x y : Operand) → 0 < p → y .negative ≡ not (x .negative) → amount (scale x y) x ≡ amount (scale x y) y → add o p x y ≡ zeroOf false
-cancellation o p x y P e a = level o p x y P (go (x .negative) refl) ∙ ap zeroOf (unlike o x y e)
+cancellation o p x y P e a = zero-of-zero o p x y P (go (x .negative) refl) ∙ ap zeroOf (unlike o x y e)
   where
     s : ℕ
     s = scale x y
