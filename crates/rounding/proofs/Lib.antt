@@ -10,6 +10,7 @@ pub mod Paper
 pub mod Range
 pub mod Summed
 pub mod Units
+pub mod Mirror
 pub mod Zeros
 pub mod Reround
 pub mod Formed
