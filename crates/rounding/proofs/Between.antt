@@ -1,17 +1,17 @@
 -- If two magnitudes give the same answer, each one between them gives it too.
-use mathlib.Core.Path.{_≡_, refl, sym, ap, _∙_, subst}
+use mathlib.Core.Path.{_≡_, refl, sym, ap, _∙_}
 use mathlib.Core.Logic.{_⊎_, inl, inr}
-use mathlib.Core.Bool.{Bool, true, false, not}
-use Prim.Native.Nat.{ℕ, zero, suc, _+_, _-_, _*_, _/_, _%_, _^_, _≤_, _<_, compare, Ordering, Ordering·lt, Ordering·eq, Ordering·gt}
-use native.Mathlib.Nat.{mul-comm, le-refl, le-trans, le-of-eq, le-of-lt, lt-of-lt-of-le, lt-of-le-of-lt, le-antisymm, lt-irrefl, mul-assoc, mul-le-mul-right, mul-lt-mul-of-pos-right, mul-div-cancel, le-of-mul-le-mul-right}
+use mathlib.Core.Bool.{Bool, true, false}
+use Prim.Native.Nat.{ℕ, _+_, _-_, _*_, _/_, _^_, _≤_, _<_, compare, Ordering, Ordering·lt, Ordering·eq, Ordering·gt}
+use native.Mathlib.Nat.{le-trans, le-of-eq, lt-of-lt-of-le, lt-of-le-of-lt, le-antisymm, mul-assoc, mul-lt-mul-of-pos-right, mul-div-cancel}
 use native.Mathlib.Omega.{arith}
 use borrow.Author.Tests.{lt-ltb, le-ltb}
-use lib.Pow.{pow-pos, pow-mono, pow-add}
+use lib.Pow.{pow-pos, pow-add}
 use lib.Ieee.{size}
-use lib.Ieee.Digits.{size-lt, size-reaches, size-le}
-use Rattle.rounding.specs.Mode.{Way, near, under, over}
+use lib.Ieee.Digits.{size-le}
+use Rattle.rounding.specs.Mode.{Way, under}
 use Rattle.rounding.specs.Select.{chosen}
-use Rattle.rounding.specs.Answer.{Answer, zeroOf, number, tooLarge, tooSmall, ranged, digits, signed, rounded}
+use Rattle.rounding.specs.Answer.{Answer, number, tooLarge, tooSmall, ranged, digits, signed, rounded}
 use Rattle.number.specs.Limits.{leastExponent, mostExponent}
 use Rattle.rounding.proofs.Selection.{Rep, chosen-rep, chosen-mono, multiple}
 use Rattle.number.proofs.Limits.{range-some}

@@ -1,14 +1,13 @@
 -- Two exact values of one sign with one answer: every exact value between them has it too. A change of sign is a change of answer.
-use mathlib.Core.Path.{_≡_, refl, sym, ap, _∙_, subst}
-use mathlib.Core.Logic.{_⊎_, inl, inr}
-use mathlib.Core.Bool.{Bool, true, false, not, cond}
-use Prim.Native.Nat.{ℕ, zero, suc, _+_, _-_, _*_, _/_, _%_, _^_, _≤_, _<_, compare, Ordering, Ordering·lt, Ordering·eq, Ordering·gt}
-use native.Mathlib.Nat.{le-antisymm, le-refl, le-trans, le-of-eq, le-of-lt, lt-of-lt-of-le, lt-of-le-of-lt}
+use mathlib.Core.Path.{_≡_, refl, sym, _∙_}
+use mathlib.Core.Bool.{Bool, true, false, cond}
+use Prim.Native.Nat.{ℕ, _+_, _-_, _≤_, _<_, compare, Ordering, Ordering·lt, Ordering·eq, Ordering·gt}
+use native.Mathlib.Nat.{le-antisymm, le-trans, le-of-eq, le-of-lt, lt-of-lt-of-le, lt-of-le-of-lt}
 use native.Mathlib.Omega.{arith}
 use borrow.Author.Tests.{lt-ltb, le-ltb}
 use lib.Dec.{ltb}
 use Rattle.rounding.specs.Mode.{Mode, Way, way}
-use Rattle.rounding.specs.Answer.{Answer, zeroOf, number, tooLarge, tooSmall, digits, signed, ranged, rounded, answer}
+use Rattle.rounding.specs.Answer.{zeroOf, number, tooLarge, tooSmall, digits, signed, ranged, rounded, answer}
 use Rattle.number.specs.Limits.{leastExponent, mostExponent}
 use Rattle.rounding.specs.Select.{chosen}
 use Rattle.rounding.proofs.Order.{Cmp, cmp}

@@ -2,7 +2,7 @@
 use mathlib.Core.Path.{_≡_, refl, sym, ap, _∙_, subst}
 use mathlib.Core.Logic.{_⊎_, inl, inr}
 use Prim.Native.Nat.{ℕ, zero, suc, _+_, _-_, _*_, _/_, _%_, _^_, _≤_, _<_, compare, Ordering, Ordering·lt, Ordering·eq, Ordering·gt}
-use native.Mathlib.Nat.{suc-mul, le-refl, le-trans, le-of-eq, le-of-lt, lt-of-lt-of-le, le-antisymm, mul-assoc, mul-comm, mul-le-mul-right, mul-lt-mul-of-pos-right, pow-suc, mul-mod-left, le-div-iff-mul-le}
+use native.Mathlib.Nat.{suc-mul, le-refl, le-trans, le-of-eq, lt-of-lt-of-le, le-antisymm, mul-assoc, mul-le-mul-right, mul-lt-mul-of-pos-right, pow-suc, mul-mod-left, le-div-iff-mul-le}
 use native.Mathlib.Omega.{arith}
 use lib.Pow.{pow-pos, pow-mono, pow-add, pow-lt}
 use lib.Ieee.{size, nearest}
@@ -12,7 +12,8 @@ use lib.Ieee.Nearest.{nearest-ge}
 use Rattle.rounding.specs.Mode.{near}
 use Rattle.rounding.specs.Select.{quotient, unit, chosen, onGrid}
 use Rattle.rounding.specs.Answer.{digits}
-use Rattle.rounding.proofs.Selection.{Rep, gap, parts, rest-lt, digits-lt, reaches, chosen-rep}
+pub use Rattle.rounding.proofs.Grid.{below-half, above-half}
+use Rattle.rounding.proofs.Selection.{Rep, gap, parts, rest-lt, digits-lt, reaches}
 use Rattle.rounding.proofs.Order.{le-or-lt, dist, Cmp, cmp, mul-one-one}
 use Rattle.rounding.proofs.Between.{digits-exact}
 
@@ -63,15 +64,6 @@ even-digits (suc p) q k P h l e = elim (le-or-lt (2 ^ suc (suc p)) q) [
 
 even-up : (q : ℕ) → (q + q % 2) % 2 ≡ 0
 even-up q = omega arith
-
--- off the middle only one is closest
-pub below-half : (a u r m n : ℕ) → a + r ≡ m → r < u → (n ≤ a) ⊎ (a + u ≤ n) → r * 2 < u → dist n m ≡ dist a m → n ≡ a
-below-half a u r m n e l (inl h) c d = omega arith
-below-half a u r m n e l (inr h) c d = omega arith
-
-pub above-half : (a u r m n : ℕ) → a + r ≡ m → r < u → (n ≤ a) ⊎ (a + u ≤ n) → u < r * 2 → dist n m ≡ dist (a + u) m → n ≡ a + u
-above-half a u r m n e l (inl h) c d = omega arith
-above-half a u r m n e l (inr h) c d = omega arith
 
 -- in the middle digits are cut off, so there are p of them
 tie-cut : (p m : ℕ) → m % unit p m * 2 ≡ unit p m → 0 < size m - p

@@ -2,8 +2,9 @@
 -- `onGrid` selects the largest not above m, the smallest not below, and the closest. p digits are one choice of u. Assumes nothing.
 use mathlib.Core.Path.{_≡_, refl, sym, ap, _∙_, subst}
 use mathlib.Core.Logic.{_⊎_, inl, inr}
-use Prim.Native.Nat.{ℕ, zero, suc, _+_, _-_, _*_, _/_, _%_, _^_, _≤_, _<_, compare, Ordering, Ordering·lt, Ordering·eq, Ordering·gt}
-use native.Mathlib.Nat.{le-of-suc-le-suc, le-refl, le-trans, le-of-eq, le-of-lt, le-antisymm, mul-le-mul-right, suc-mul, div-add-mod', mod-lt, le-div-iff-mul-le, div-lt-iff-lt-mul, div-mul-le-self, lt-div-mul-add, eq-or-lt-of-le}
+use Prim.Native.Nat.{ℕ, zero, suc, _+_, _-_, _*_, _/_, _%_, _≤_, _<_, compare, Ordering, Ordering·lt, Ordering·eq, Ordering·gt}
+use native.Mathlib.Nat.{le-of-suc-le-suc, le-refl, le-trans, le-of-eq, le-of-lt, le-antisymm, mul-le-mul-right, suc-mul, div-add-mod', mod-lt, mul-div-cancel, le-div-iff-mul-le, div-lt-iff-lt-mul, div-mul-le-self, lt-div-mul-add}
+use native.Mathlib.Decide.{ℕ-discrete}
 use native.Mathlib.Omega.{arith}
 use lib.Ieee.{nearest}
 use lib.Ieee.Fits.{nearest-le}
@@ -121,6 +122,90 @@ module _ (S : ℕ → Type 0) (m u : ℕ) (g : Grid S m u) where
   grid-near-closest n r =
       close (m / u * u) u (m % u) m n (nearest (m / u) (compare (m % u * 2) u) * u) (div-add-mod' m u) (mod-lt m (g .positive)) (g .gap n r)
       (near-at (m / u) u (m % u) (compare (m % u * 2) u) (cmp (m % u * 2) u))
+
+-- ---- what the laws ask leaves one choice
+
+-- off the middle only one is closest
+pub below-half : (a u r m n : ℕ) → a + r ≡ m → r < u → (n ≤ a) ⊎ (a + u ≤ n) → r * 2 < u → dist n m ≡ dist a m → n ≡ a
+below-half a u r m n e l (inl h) c d = omega arith
+below-half a u r m n e l (inr h) c d = omega arith
+
+pub above-half : (a u r m n : ℕ) → a + r ≡ m → r < u → (n ≤ a) ⊎ (a + u ≤ n) → u < r * 2 → dist n m ≡ dist (a + u) m → n ≡ a + u
+above-half a u r m n e l (inl h) c d = omega arith
+above-half a u r m n e l (inr h) c d = omega arith
+
+-- in the middle both neighbours are
+pub tied : (a u r m n : ℕ) → a + r ≡ m → r * 2 ≡ u → (n ≤ a) ⊎ (a + u ≤ n) → dist n m ≤ r → (n ≡ a) ⊎ (n ≡ a + u)
+tied a u r m n e c (inl h) d = inl (omega arith)
+tied a u r m n e c (inr h) d = inr (omega arith)
+
+pub flat : (a r m : ℕ) → a + r ≡ m → dist a m ≤ r
+flat a r m e = omega arith
+
+module _ (S : ℕ → Type 0) (m u : ℕ) (g : Grid S m u) where
+  pub grid-under-unique : (n : ℕ) → S n → n ≤ m → ((k : ℕ) → S k → k ≤ m → k ≤ n) → n ≡ onGrid under u m
+  grid-under-unique n r h f = le-antisymm (grid-under-largest S m u g n r h) (f (onGrid under u m) (grid-in S m u g under) (grid-under-le m u))
+
+  pub grid-over-unique : (n : ℕ) → S n → m ≤ n → ((k : ℕ) → S k → m ≤ k → n ≤ k) → n ≡ onGrid over u m
+  grid-over-unique n r h f = le-antisymm (f (onGrid over u m) (grid-in S m u g over) (grid-over-ge m u (g .positive))) (grid-over-smallest S m u g n r h)
+
+  -- where another is as close, the number of units is even
+  pub grid-near-even : (n : ℕ) → S n → (n ≡ onGrid near u m → ⊥) → dist n m ≡ dist (onGrid near u m) m → quotient near m u % 2 ≡ 0
+  unfolding onGrid quotient
+  grid-near-even n r ne e = go (compare (m % u * 2) u) (cmp (m % u * 2) u) ne e
+    where
+      q : ℕ
+      q = m / u
+
+      even-up : (q : ℕ) → (q + q % 2) % 2 ≡ 0
+      even-up q = omega arith
+
+      go : (o : Ordering) → Cmp o (m % u * 2) u → (n ≡ nearest q o * u → ⊥) → dist n m ≡ dist (nearest q o * u) m → nearest q o % 2 ≡ 0
+      go Ordering·lt c ne e = absurd (ne (below-half (q * u) u (m % u) m n (div-add-mod' m u) (mod-lt m (g .positive)) (g .gap n r) c e))
+      go Ordering·gt c ne e = absurd (ne (above-half (q * u) u (m % u) m n (div-add-mod' m u) (mod-lt m (g .positive)) (g .gap n r) c (e ∙ ap (λ (x : ℕ). dist x m) (suc-mul q u)) ∙ sym (suc-mul q u)))
+      go Ordering·eq c ne e = even-up q
+
+  -- the closest; where another is as close, the one of an even number of units
+  pub grid-near-unique : (n : ℕ) → S n → ((k : ℕ) → S k → dist n m ≤ dist k m) → ((k : ℕ) → S k → (k ≡ n → ⊥) → dist k m ≡ dist n m → n / u % 2 ≡ 0) → n ≡ onGrid near u m
+  unfolding onGrid quotient
+  grid-near-unique n r f t = go (compare (m % u * 2) u) (cmp (m % u * 2) u) (f best R) (grid-near-closest S m u g n r) (λ ne e. t best R ne e)
+    where
+      best : ℕ
+      best = onGrid near u m
+
+      R : S best
+      R = grid-in S m u g near
+
+      q : ℕ
+      q = m / u
+
+      parts : q * u + m % u ≡ m
+      parts = div-add-mod' m u
+
+      rest : m % u < u
+      rest = mod-lt m (g .positive)
+
+      go : (o : Ordering) → Cmp o (m % u * 2) u → dist n m ≤ dist (nearest q o * u) m → dist (nearest q o * u) m ≤ dist n m
+          → ((nearest q o * u ≡ n → ⊥) → dist (nearest q o * u) m ≡ dist n m → n / u % 2 ≡ 0) → n ≡ nearest q o * u
+      go Ordering·lt c a b t = below-half (q * u) u (m % u) m n parts rest (g .gap n r) c (le-antisymm a b)
+      go Ordering·gt c a b t = above-half (q * u) u (m % u) m n parts rest (g .gap n r) c (le-antisymm a b ∙ ap (λ (x : ℕ). dist x m) (suc-mul q u)) ∙ sym (suc-mul q u)
+      go Ordering·eq c a b t = pick (ℕ-discrete ((q + q % 2) * u) n)
+        where
+          even : (q : ℕ) → q % 2 ≡ 0 → q ≡ q + q % 2
+          even q e = omega arith
+
+          odd : (q : ℕ) → suc q % 2 ≡ 0 → suc q ≡ q + q % 2
+          odd q e = omega arith
+
+          side : n / u % 2 ≡ 0 → (n ≡ q * u) ⊎ (n ≡ q * u + u) → n ≡ (q + q % 2) * u
+          side e (inl d) = d ∙ ap (λ (x : ℕ). x * u) (even q (sym (ap (λ (x : ℕ). x % 2) (ap (λ (x : ℕ). x / u) d ∙ mul-div-cancel q (g .positive))) ∙ e))
+          side e (inr d) =
+              let h : n ≡ suc q * u = d ∙ sym (suc-mul q u) in
+              h ∙ ap (λ (x : ℕ). x * u) (odd q (sym (ap (λ (x : ℕ). x % 2) (ap (λ (x : ℕ). x / u) h ∙ mul-div-cancel (suc q) (g .positive))) ∙ e))
+
+          pick : Dec ((q + q % 2) * u ≡ n) → n ≡ (q + q % 2) * u
+          pick (yes e) = sym e
+          pick (no ne) = side (t ne (le-antisymm b a)) (tied (q * u) u (m % u) m n parts c (g .gap n r) (le-trans (f (q * u) (g .lower)) (flat (q * u) (m % u) m parts)))
 
 -- ---- a larger number selects one that is no smaller
 

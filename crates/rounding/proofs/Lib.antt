@@ -7,3 +7,12 @@ pub mod Scale
 pub mod Even
 pub mod Unique
 pub mod Paper
+pub mod Range
+pub mod Summed
+pub mod Units
+pub mod Mirror
+pub mod Zeros
+pub mod Reround
+pub mod Formed
+pub mod Marked
+pub mod Modes

@@ -2,13 +2,14 @@
 use mathlib.Core.Path.{_≡_, refl, sym, subst}
 use mathlib.Core.Logic.{_⊎_, inl, inr}
 use mathlib.Core.Bool.{Bool, true, false, not}
-use Prim.Native.Nat.{ℕ, zero, suc, _+_, _-_, _*_, _≤_, _<_, compare, Ordering, Ordering·lt, Ordering·eq, Ordering·gt}
+use Prim.Native.Nat.{ℕ, _*_, _≤_, _<_, compare, Ordering, Ordering·lt, Ordering·eq, Ordering·gt}
 use native.Mathlib.Nat.{le-antisymm, le-of-eq, le-of-mul-le-mul-right, lt-of-le-of-lt}
 use native.Mathlib.Omega.{arith}
 use lib.Dec.{T, isLe, isEq, leb, leb→le, nleb→lt, eqb, eqb→eq, eqb-refl}
 use lib.Arith.{lt-of-le-ne}
 use lib.Ieee.{size}
 use lib.Ieee.Digits.{size-lt, size-le}
+pub use Rattle.rounding.specs.Paper.{dist}
 
 pub le-or-lt : (a b : ℕ) → (a ≤ b) ⊎ (b < a)
 le-or-lt a b = go (leb a b) (leb→le a b) (nleb→lt a b)
@@ -22,10 +23,6 @@ mul-one-one a b u U e = le-antisymm (le-of-mul-le-mul-right (le-of-eq e) U) (le-
 
 pub size-mono : (a b : ℕ) → a ≤ b → size a ≤ size b
 size-mono a b h = size-le a (size b) (lt-of-le-of-lt h (size-lt b))
-
--- the distance of two whole numbers
-abbrev pub dist : ℕ → ℕ → ℕ
-dist a b = (a - b) + (b - a)
 
 -- what each outcome of a comparison says
 abbrev pub Cmp : Ordering → ℕ → ℕ → Type 0

@@ -1,18 +1,18 @@
 -- The unit in which the exact value is counted does not matter.
-use mathlib.Core.Path.{_≡_, refl, sym, ap, _∙_, subst}
-use mathlib.Core.Logic.{_⊎_, inl, inr}
+use mathlib.Core.Path.{_≡_, refl, sym, ap, _∙_}
+use mathlib.Core.Logic.{inl, inr}
 use mathlib.Core.Bool.{Bool}
-use Prim.Native.Nat.{ℕ, zero, suc, _+_, _-_, _*_, _/_, _%_, _^_, _≤_, _<_, compare, Ordering, Ordering·lt, Ordering·eq, Ordering·gt}
-use native.Mathlib.Nat.{le-refl, le-trans, le-of-eq, le-of-lt, lt-of-lt-of-le, le-antisymm, mul-assoc, mul-comm, mul-right-comm, mul-le-mul-right, mul-lt-mul-of-pos-right, mul-pos, mul-div-mul-right, div-eq-of-lt-le, div-mul-le-self, lt-div-mul-add, mul-div-cancel}
+use Prim.Native.Nat.{ℕ, zero, suc, _+_, _-_, _*_, _/_, _^_, _≤_, _<_, compare, Ordering, Ordering·lt, Ordering·eq, Ordering·gt}
+use native.Mathlib.Nat.{le-refl, le-trans, le-of-eq, lt-of-lt-of-le, le-antisymm, mul-assoc, mul-right-comm, mul-le-mul-right, mul-lt-mul-of-pos-right, mul-pos, mul-div-mul-right, div-eq-of-lt-le, div-mul-le-self, lt-div-mul-add}
 use native.Mathlib.Omega.{arith}
 use lib.Pow.{pow-lt, pow-pos, pow-mono, pow-add}
 use lib.Ieee.{size}
-use lib.Ieee.Digits.{size-lt, size-le, size-reaches}
+use lib.Ieee.Digits.{size-lt, size-reaches}
 use lib.Ieee.Nearest.{closest-same}
 use Rattle.rounding.specs.Mode.{Way, near, under, over}
 use Rattle.rounding.specs.Select.{quotient, unit, chosen, onGrid}
-use Rattle.rounding.specs.Answer.{digits, signed, Answer, number, ranged, rounded}
-use Rattle.rounding.proofs.Selection.{Rep, unit-pos, chosen-rep, under-le, under-largest, over-ge, over-smallest, near-closest, chosen-mono}
+use Rattle.rounding.specs.Answer.{digits, rounded}
+use Rattle.rounding.proofs.Selection.{Rep, unit-pos, under-le, under-largest, over-ge, over-smallest, near-closest, chosen-mono}
 use Rattle.rounding.proofs.Order.{le-or-lt, dist, Cmp, cmp, compare-at}
 use Rattle.rounding.proofs.Even.{size-is}
 

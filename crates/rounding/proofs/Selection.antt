@@ -1,7 +1,7 @@
 -- p digits as a grid: what `chosen` selects is what the paper says, on sizes. Assumes nothing.
 use mathlib.Core.Path.{_≡_, refl, sym, ap, _∙_, subst}
 use mathlib.Core.Logic.{_⊎_, inl, inr}
-use Prim.Native.Nat.{ℕ, zero, suc, _+_, _-_, _*_, _/_, _%_, _^_, _≤_, _<_}
+use Prim.Native.Nat.{ℕ, suc, _+_, _-_, _*_, _/_, _%_, _^_, _≤_, _<_}
 use native.Mathlib.Nat.{le-trans, le-of-eq, le-of-lt, lt-of-lt-of-le, le-antisymm, mul-assoc, mul-le-mul-right, mul-lt-mul-of-pos-right, suc-mul, div-add-mod', mod-lt, le-div-iff-mul-le}
 use native.Mathlib.Omega.{arith}
 use lib.Pow.{pow-pos, pow-mono, pow-add, pow-lt}
@@ -9,16 +9,10 @@ use lib.Ieee.{size}
 use lib.Ieee.Digits.{size-reaches}
 use lib.Ieee.Fits.{kept-lt}
 use Rattle.rounding.specs.Mode.{Way, near, under, over}
-use Rattle.rounding.specs.Select.{quotient, unit, onGrid, chosen}
+use Rattle.rounding.specs.Select.{unit, chosen}
+pub use Rattle.rounding.specs.Paper.{Rep}
 use Rattle.rounding.proofs.Order.{le-or-lt, dist}
 use Rattle.rounding.proofs.Grid.{Grid, grid-in, grid-under-le, grid-under-largest, grid-over-ge, grid-over-smallest, grid-near-closest, grid-mono}
-
--- a p-digit number: some digits, at most p of them, and a weight
-pub record Rep (p n : ℕ) : Type 0 where
-  pub digits : ℕ
-  pub shift : ℕ
-  pub few : digits < 2 ^ p
-  pub is : n ≡ digits * 2 ^ shift
 
 pub unit-pos : (p m : ℕ) → 0 < unit p m
 unfolding unit

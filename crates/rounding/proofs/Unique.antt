@@ -1,31 +1,26 @@
 -- What the paper asks of the rounded number leaves one choice, and it is `chosen`.
-use mathlib.Core.Path.{_≡_, refl, sym, ap, _∙_, subst}
+use mathlib.Core.Path.{_≡_, refl, sym, ap, _∙_}
 use mathlib.Core.Logic.{_⊎_, inl, inr}
 use Prim.Native.Nat.{ℕ, zero, suc, _+_, _-_, _*_, _/_, _%_, _^_, _≤_, _<_, compare, Ordering, Ordering·lt, Ordering·eq, Ordering·gt}
-use native.Mathlib.Nat.{le-refl, le-trans, le-antisymm, suc-mul, pow-succ'}
+use native.Mathlib.Nat.{le-trans, le-antisymm, suc-mul, pow-succ'}
 use native.Mathlib.Decide.{ℕ-discrete}
 use native.Mathlib.Omega.{arith}
 use lib.Ieee.{size, nearest}
-use Rattle.rounding.specs.Mode.{Way, near, under, over}
+use Rattle.rounding.specs.Mode.{near, under, over}
 use Rattle.rounding.specs.Select.{quotient, unit, chosen, onGrid}
 use Rattle.rounding.specs.Answer.{digits}
-use Rattle.rounding.proofs.Selection.{Rep, gap, parts, rest-lt, digits-lt, chosen-rep, under-le, under-largest, over-ge, over-smallest, near-closest}
+use Rattle.rounding.proofs.Grid.{grid-under-unique, grid-over-unique, tied, flat}
+use Rattle.rounding.proofs.Selection.{Rep, digits-grid, gap, parts, rest-lt, digits-lt, chosen-rep, near-closest}
 use Rattle.rounding.proofs.Order.{dist, Cmp, cmp}
 use Rattle.rounding.proofs.Even.{digits-of, tie-full, below-half, above-half}
 
 pub under-unique : (p m n : ℕ) → 0 < p → Rep p n → n ≤ m → ((k : ℕ) → Rep p k → k ≤ m → k ≤ n) → n ≡ chosen under p m
-under-unique p m n P r h f = le-antisymm (under-largest p m n P r h) (f (chosen under p m) (chosen-rep under p m P) (under-le p m))
+unfolding chosen
+under-unique p m n P r h f = grid-under-unique (Rep p) m (unit p m) (digits-grid p m P) n r h f
 
 pub over-unique : (p m n : ℕ) → 0 < p → Rep p n → m ≤ n → ((k : ℕ) → Rep p k → m ≤ k → n ≤ k) → n ≡ chosen over p m
-over-unique p m n P r h f = le-antisymm (f (chosen over p m) (chosen-rep over p m P) (over-ge p m)) (over-smallest p m n P r h)
-
--- of the two neighbours of a tie, the one that is not q + q % 2 has an odd number of units
-tied : (a u r m n : ℕ) → a + r ≡ m → r * 2 ≡ u → (n ≤ a) ⊎ (a + u ≤ n) → dist n m ≤ r → (n ≡ a) ⊎ (n ≡ a + u)
-tied a u r m n e c (inl h) d = inl (omega arith)
-tied a u r m n e c (inr h) d = inr (omega arith)
-
-flat : (a r m : ℕ) → a + r ≡ m → dist a m ≤ r
-flat a r m e = omega arith
+unfolding chosen
+over-unique p m n P r h f = grid-over-unique (Rep p) m (unit p m) (digits-grid p m P) n r h f
 
 -- at q units, p digits of them; and q + 1 still has p digits if q is even
 odd-units : (p m q : ℕ) → 2 ^ p ≤ q → q < 2 ^ suc p → digits (suc p) (q * unit (suc p) m) ≡ q

@@ -2,3 +2,5 @@ pub mod Mode
 pub mod Select
 pub mod Answer
 pub mod Sum
+pub mod Paper
+pub mod Marked
