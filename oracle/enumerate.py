@@ -323,13 +323,13 @@ def bound_run(tally, width, digits):
     """The depth, found without document 01's bound, stays within it and is kept by more columns."""
     stream = random.Random(width + 100)
     limits = Limits(width, 2, digits, -9, 9, far=10**6)
-    for _ in range(12000):
+    for _ in range(8000):
         terms = [
             Term(stream.choice((1, -1)), stream.randrange(2 ** (m - 1), 2**m), m, stream.randint(-9, 9))
             for m in (stream.randint(2, digits), stream.randint(2, digits))
         ]
         p, mode = stream.randint(2, digits), stream.choice(MODES)
-        verdicts = [fixed(terms, k, p, mode, limits) for k in range(1, 40)]
+        verdicts = [fixed(terms, k, p, mode, limits) for k in range(1, 16)]
         first = verdicts.index(True) + 1
         tally.same("bound of the depth", first <= depth_bound(terms, p, limits), True, terms, p, mode)
         tally.same("kept by more columns", verdicts, sorted(verdicts), terms, p, mode)
@@ -391,7 +391,7 @@ def main():
         bound_run(tally, width, 9)
         narrow_run(tally, width, 3, 2)
         wide_run(tally, width, 4, 9)
-        sampled_run(tally, width, 6, 6, 300, seed=width)
+        sampled_run(tally, width, 6, 6, 150, seed=width)
     for check, states in tally.states.items():
         print(f"{check}: {states} states")
     print(f"{sum(tally.states.values())} states in {time.time() - start:.0f} s")
