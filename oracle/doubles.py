@@ -3,8 +3,7 @@
 from dataclasses import dataclass
 
 from kernel import (
-    BASE, DOWN, NOTHING, UP, ZERO, Number, first_fault, limbs_of, power, regular, select, term_of,
-    zero,
+    DOWN, NOTHING, UP, ZERO, Number, first_fault, power, regular, select, term_of, zero,
 )
 
 EXACT, BELOW, ABOVE, REFUSED = range(4)
@@ -96,5 +95,4 @@ def from_double(bits, length):
     exponent = size + max(field, 1) - 1075
     digits = whole * power(DOUBLE_PRECISION - size)
     number = regular(-1 if negative else 1, digits, DOUBLE_PRECISION, exponent)
-    assert number.limbs == limbs_of(digits, DOUBLE_PRECISION) and BASE.width == 64
     return FromDouble(number, number.limbs)

@@ -3,7 +3,7 @@
 from dataclasses import dataclass
 
 from kernel import (
-    NOTHING, REGULAR, ZERO, Number, digits_ok, exponent_ok, limb_count, precision_ok,
+    NOTHING, REGULAR, Number, digits_ok, exponent_ok, limb_count, precision_ok,
 )
 
 DIGITS = b"0123456789abcdef"
@@ -105,5 +105,5 @@ def read_line(line, length):
         return Read(NOTHING, None, 3, 3)
     if not digits_ok(number):
         return Read(NOTHING, None, 5, 1)
-    assert kind != ZERO or line_of(number) == line
+    assert line_of(number) == line
     return Read(number, limbs)
