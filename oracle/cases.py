@@ -6,9 +6,10 @@ the same cases.
 """
 
 import random
+from itertools import combinations, product
 from typing import NamedTuple
 
-from kernel import BASE, MODES, REGULAR, ZERO, Number, limb_count, power, regular, zero
+from kernel import BASE, MODES, REGULAR, ZERO, Number, limb_count, power, regular, turn_sign, zero
 
 ADD, SUBTRACT, REROUND, COMPARE = range(4)
 MOST, LEAST = BASE.most_exponent, BASE.least_exponent
@@ -305,64 +306,50 @@ def depth_example():
 def one_unread_digit():
     """m = c + 1 and d + n = c + 1: the carry reaches the tie and never passes it."""
     draw = Draw("one unread digit")
-    for columns in (1, 2):
-        c = 64 * columns
-        for gap in (1, 2, 5, 62):
-            for p in (2, c - gap - 1, c - 2, c - 1, c):
-                if p < 2 or c + 1 - gap < 2:
-                    continue
-                for last in (0, 1):
-                    half = c - p
-                    tail = power(half) - 1 if half else 0
-                    x_digits = 2 * (power(c - 1) + (power(half) >> 1)) - 2 + last
-                    y_digits = power(c - gap) + draw.below(2)
-                    other = 2 * (power(c - 1) + tail) + last
-                    y = regular(1, y_digits, c + 1 - gap, -gap)
-                    mode = draw.of((0, 0, 0, 1, 2, 3))
-                    for digits in (x_digits, other):
-                        x = regular(1, max(digits, power(c)), c + 1, 0)
-                        yield draw.case(x, y, p, ADD, mode)
+    for c, gap, last in product((64, 128), (1, 2, 5, 62), (0, 1)):
+        y = regular(1, power(c - gap) + draw.below(2), c + 1 - gap, -gap)
+        for p in (2, c - gap, c - 2, c - 1, c):
+            half = power(c - p) // 2
+            for rest in (max(half - 1, 0), power(c - p) - 1):
+                x = regular(1, 2 * (power(c - 1) + rest) + last, c + 1, 0)
+                yield draw.case(x, y, p, ADD, draw.of((0, 0, 0, 1, 2, 3)))
 
 
 def half_in_a_hole():
     """A hole whose first digit is exactly the half: odd and even last digits."""
     draw = Draw("half in a hole")
-    for m in (63, 64, 65, 128, 192):
-        for p in (m - 1, m, m + 1):
-            for gap in (m - 1, m, m + 1):
-                for last in (0, 1):
-                    for y_digits in (power(9), power(9) + 1):
-                        x = regular(1, power(m - 1) + 2 * draw.bits(m - 2) + last, m, 0)
-                        y = regular(draw.sign(), y_digits, 10, -gap)
-                        yield draw.case(*either_order(draw, x, y), p, ADD, 0)
-                        power_of_two = regular(1, power(m - 1), m, 0)
-                        yield draw.case(power_of_two, y, p, SUBTRACT, draw.of((0, 0, 1, 2, 3)))
+    for m, more, longer, last in product((63, 64, 65, 128, 192), (-1, 0, 1), (-1, 0, 1), (0, 1)):
+        for y_digits in (power(9), power(9) + 1):
+            x = regular(1, power(m - 1) + 2 * draw.bits(m - 2) + last, m, 0)
+            y = regular(draw.sign(), y_digits, 10, -(m + longer))
+            yield draw.case(*either_order(draw, x, y), m + more, ADD, 0)
+            two_power = regular(1, power(m - 1), m, 0)
+            yield draw.case(two_power, y, m + more, SUBTRACT, draw.of((0, 0, 1, 2, 3)))
 
 
 def ones_at_the_top():
     """All ones at the top exponent, where a carry that may come is refusal 6."""
     draw = Draw("ones at the top")
-    for m in (64, 65, 128, 129):
-        for p in (2, 63, 64, 65, 128, 4096):
-            for gap in (0, 1, 63, 64, 65, 128):
-                for sign in (1, -1):
-                    x = regular(sign, power(m) - 1 - draw.of((0, 0, 1)), m, MOST)
-                    y = regular(sign, draw.digits(64), 64, MOST - gap)
-                    yield draw.case(x, y, p, ADD, draw.below(4))
+    gaps_tried = (0, 1, 63, 64, 65, 128)
+    for m, p, gap in product((64, 65, 128, 129), (2, 63, 64, 65, 128, 4096), gaps_tried):
+        for sign in (1, -1):
+            x = regular(sign, power(m) - 1 - draw.of((0, 0, 1)), m, MOST)
+            y = regular(sign, draw.digits(64), 64, MOST - gap)
+            yield draw.case(x, y, p, ADD, draw.below(4))
 
 
 def sides_of_zero():
     """Refusals 7 from both sides of zero: equal columns, then a difference or none."""
     draw = Draw("sides of zero")
-    for columns in (1, 2, 3):
-        for e in (LEAST, LEAST + 1, LEAST + 64, LEAST + 100):
-            for difference in (0, 1, -1, power(63), -power(63), FULL):
-                head = power(64 * columns - 1) + draw.bits(64 * columns - 1)
-                tail = draw.bits(64) if difference == 0 else max(0, -difference)
-                x = regular(1, (head << 64) + tail, 64 * (columns + 1), e)
-                other = min((head << 64) + tail + difference, power(64 * (columns + 1)) - 1)
-                y = regular(1, other, 64 * (columns + 1), e)
-                yield draw.case(x, y, draw.of((2, 53, 64, 128)), SUBTRACT)
+    exponents = (LEAST, LEAST + 1, LEAST + 64, LEAST + 100)
+    differences = (0, 1, -1, power(63), -power(63), FULL)
+    for columns, e, difference in product((1, 2, 3), exponents, differences):
+        head = power(64 * columns - 1) + draw.bits(64 * columns - 1)
+        tail = draw.bits(64) if difference == 0 else max(0, -difference)
+        m = 64 * (columns + 1)
+        x = regular(1, head * power(64) + tail, m, e)
+        y = regular(1, min(head * power(64) + tail + difference, power(m) - 1), m, e)
+        yield draw.case(x, y, draw.of((2, 53, 64, 128)), SUBTRACT)
 
 
 def deepest():
@@ -374,6 +361,155 @@ def deepest():
             y = regular(1, power(4095) + last, 4096, -4097)
             yield from in_all_modes(draw, x, y, 4096, SUBTRACT)
             yield from in_all_modes(draw, x, regular(1, power(4095) + last, 4096, -4096), 4096)
+
+
+def boundaries():
+    """Read parts whose sum ends, after p digits, on or beside zero, the half and all ones.
+
+    Tails of no, one or many digits stay unread below column 0 or 1; the sum
+    stands in the middle of the exponent range or at either end of it.
+    """
+    draw = Draw("boundaries")
+    made = 0
+    while made < 2400:
+        case = boundary_case(draw)
+        if case is not None:
+            made += 1
+            yield case
+
+
+def boundary_case(draw):
+    """One such sum, or None where the read part of x would not begin with 1."""
+    c = 64 * draw.between(1, 2)
+    p = draw.of((2, 3, 53, 62, 63, 64, c - 2, c - 1, c))
+    gap = draw.of((0, 0, 0, 1, 2, p - 1, p, p + 1, c - 1, c, c + 1, c + 5))
+    m = c + draw.of((-1, 0, 0, 1, 1, 2, 64))
+    n = max(c - gap + draw.of((-1, 0, 0, 1, 1, 2, 64)), 2)
+    y_digits = draw.digits(n)
+    y_read = y_digits * power(c) // power(gap + n)
+    like = draw.below(2) == 1
+    size = draw.of((c, c, c + 1)) if like else draw.of((c, c - 1, c - 2, draw.between(p, c)))
+    if size < p:
+        return None
+    wanted = boundary_sum(draw, p, size - p)
+    x_read = wanted - y_read if like else draw.of((y_read + wanted, y_read - wanted))
+    if x_read < power(c - 1) or x_read >= power(c):
+        return None
+    tail = max(m - c, 0)
+    x_digits = x_read * power(m) // power(c) + draw.of((0, 0, 1, power(tail) - 1)) % power(tail)
+    e = draw.of((0, 0, MOST, clamped(LEAST + c - size + draw.of((-1, 0, 0, 1)))))
+    sign = draw.sign()
+    x, y = regular(sign, x_digits, m, e), regular(sign if like else -sign, y_digits, n, clamped(e - gap))
+    return draw.case(*either_order(draw, x, y), p, ADD, draw.of((0, 0, 0, 1, 2, 3)))
+
+
+def boundary_sum(draw, p, drop):
+    """p digits, then `drop` digits on or beside a boundary."""
+    kept = power(p - 1) + draw.of((draw.bits(p - 1), draw.bits(p - 1), 0, power(p - 1) - 1))
+    half = power(drop) // 2
+    rest = draw.of((0, 0, 1, half - 1, half, half, half + 1, -1, -2)) % power(drop)
+    return kept * power(drop) + rest
+
+
+def ripples():
+    """Carries and borrows that a digit many columns down decides."""
+    draw = Draw("ripples")
+    for _ in range(90):
+        p = draw.of((2, 53, 64, 65, 128, 500))
+        m = p + 64 * draw.of((2, 3, 9, 20, 40)) + draw.of((-1, 0, 1))
+        at = draw.between(p + 1, m - 1)
+        gap = draw.of((1, 1, 2, 63, 64, 65))
+        n = m - gap
+        y_digits = power(n - 1) + draw.bits(n - 1)
+        ones = power(m) - power(m - p + draw.below(2)) + power(m - p) - 1
+        half = power(m - 1) + power(m - p - 1)
+        nothing = power(m - 1) + draw.bits(p - 1) * power(m - p)
+        sum_digits = draw.of((ones, half, nothing)) + draw.of((0, 1, -1)) * power(m - at)
+        like = draw.below(2) == 1
+        x_digits = sum_digits - y_digits if like else sum_digits + y_digits
+        e = x_digits.bit_length() - m
+        if x_digits <= 0:
+            continue
+        precision = max(x_digits.bit_length(), 2)
+        x = regular(1, x_digits, precision, e)
+        y = regular(1 if like else -1, y_digits, n, -gap)
+        yield draw.case(*either_order(draw, x, y), p, ADD, draw.of((0, 0, 1, 2, 3)))
+
+
+def deep_underflow():
+    """The larger exponent thousands above the least one, the difference below it."""
+    draw = Draw("deep underflow")
+    for above in (64, 1000, 3000, 3072, 4000):
+        for beyond in (-2, -1, 0, 1, 2, 64):
+            head = above + beyond
+            m = head + draw.of((1, 2, 64, 90))
+            n = m + draw.of((0, 0, 1, -1))
+            base = power(head - 1) + draw.bits(head - 2)
+            x_digits = base * power(m - head) + draw.bits(m - head)
+            y_digits = base * power(n - head) + draw.bits(n - head)
+            x, y = (regular(1, digits, length, LEAST + above)
+                    for digits, length in ((x_digits, m), (y_digits, n)))
+            yield draw.case(x, y, draw.of((2, 53, 64)), SUBTRACT)
+
+
+def tie_at_the_top():
+    """p = c = d at the top exponent: the least value is the tie itself."""
+    draw = Draw("tie at the top")
+    for c, unread, off, last in product((64, 128), (0, 1, 64), (-1, 0, 1), (0, 1)):
+        y = regular(1, power(9) + last, 10, MOST - c - off)
+        for tail in sorted({0, power(unread) - 1}):
+            x = regular(1, (power(c) - 1) * power(unread) + tail, c + unread, MOST)
+            yield from in_all_modes(draw, x, y, c)
+
+
+def half_read_so_far():
+    """The read parts give p digits and then the half, or one beside it; one or two digits unread."""
+    draw = Draw("half read so far")
+    for c, behind, beside, last in product((64, 128), (1, 2, 11, 62), (-1, 0, 1), (0, 1)):
+        p = c - behind
+        kept = power(p - 1) + (2 * draw.bits(p - 2) if p > 2 else 0) + last
+        wanted = kept * power(c - p) + power(c - p) // 2 + beside
+        yield from below_the_columns(draw, c, p, wanted)
+        yield from among_the_columns(draw, c, p, wanted)
+        yield from equal_exponents(draw, c, p, wanted)
+
+
+def below_the_columns(draw, c, p, wanted):
+    """y, of unlike sign, begins where the columns end: x - y may be just what is read of x."""
+    for unread in (1, 2):
+        n = draw.of((2, 10, 64))
+        x = regular(1, wanted * power(unread) + draw.bits(unread), c + unread, 0)
+        y = regular(-1, draw.of((power(n - 1), power(n) - 1)), n, -c - draw.of((0, 0, 0, 1)))
+        yield draw.case(*either_order(draw, x, y), p, ADD, 0)
+
+
+def among_the_columns(draw, c, p, wanted):
+    """y, of like sign, begins among the columns, each operand with one or two digits unread."""
+    gap = draw.between(2, min(40, c - 2))
+    n_read = c - gap
+    y_read = power(n_read - 1) + draw.bits(n_read - 1)
+    x_read = wanted - y_read
+    if x_read < power(c - 1):
+        y_read, gap, n_read = 2 + draw.below(2), c - 2, 2
+        x_read = wanted - y_read
+    if x_read < power(c - 1):
+        return
+    for x_unread, y_unread in ((1, 1), (1, 2), (2, 1)):
+        x = regular(1, x_read * power(x_unread) + draw.bits(x_unread), c + x_unread, 0)
+        y = regular(1, y_read * power(y_unread) + draw.bits(y_unread), n_read + y_unread, -gap)
+        yield draw.case(*either_order(draw, x, y), p, ADD, 0)
+
+
+def equal_exponents(draw, c, p, wanted):
+    """Unlike operands of one exponent, the smaller first or second, one of them read whole."""
+    short = wanted // 4
+    kept = min(p, short.bit_length() - 1)
+    for m, n in ((c, c + 1), (c + 1, c), (c + 1, c + 2)):
+        low = power(c - 1) + draw.bits(c - 3)
+        high = min(low + short, power(c) - 1)
+        x = regular(1, high * power(m - c) + draw.bits(m - c), m, 0)
+        y = regular(-1, low * power(n - c) + draw.bits(n - c), n, 0)
+        yield draw.case(*either_order(draw, x, y), max(kept, 2), ADD, draw.of((0, 0, 1, 2, 3)))
 
 
 def marked():
@@ -512,7 +648,7 @@ def single_faults():
             yield faulty_case(draw, operation, mode, [])
         for refusal in (2, 3, 4, 5):
             for place in places_of(refusal):
-                for _ in range(4):
+                for _ in range(6):
                     yield faulty_case(draw, operation, draw.below(4), [(refusal, place)])
 
 
@@ -520,12 +656,10 @@ def double_faults():
     """Every two faults at once: the one named must be the first in the fixed order."""
     draw = Draw("double faults")
     every = [(refusal, place) for refusal in (2, 3, 4, 5) for place in places_of(refusal)]
-    for first in every:
-        for second in every:
-            if first < second:
-                for operation in (ADD, SUBTRACT, REROUND, COMPARE):
-                    mode = draw.of((0, 1, 2, 3, 0, 1, 2, 4))
-                    yield faulty_case(draw, operation, mode, [first, second])
+    for pair in combinations(every, 2):
+        for operation in (ADD, SUBTRACT, REROUND, COMPARE):
+            mode = draw.of((0, 1, 2, 3, 0, 1, 2, 4))
+            yield faulty_case(draw, operation, mode, list(pair))
 
 
 def many_faults():
@@ -538,13 +672,24 @@ def many_faults():
 
 
 FAMILIES = (
-    marked, depth_example, one_unread_digit, half_in_a_hole, ones_at_the_top, sides_of_zero,
-    deepest, tiny, gaps, cancellations, below_a_power, ties, carries, range_ends,
-    smallest_differences, large, zeros, rerounds, comparisons, single_faults, double_faults,
-    many_faults,
+    depth_example, one_unread_digit, half_in_a_hole, half_read_so_far, boundaries,
+    ones_at_the_top, tie_at_the_top, sides_of_zero, deep_underflow, ripples, deepest, tiny, gaps,
+    cancellations, below_a_power, ties, carries, range_ends, smallest_differences, large, zeros,
+    rerounds, comparisons, single_faults, double_faults, many_faults,
 )
 
 
+def disguised(draw, case):
+    """A third of the sums are asked as differences, the second sign turned."""
+    if case.operation != ADD or draw.below(3):
+        return case
+    return case._replace(operation=SUBTRACT, y=turn_sign(case.y))
+
+
 def all_cases():
+    """Every case, in a fixed order."""
+    draw = Draw("disguise")
+    yield from marked()
     for family in FAMILIES:
-        yield from family()
+        for case in family():
+            yield disguised(draw, case)

@@ -22,7 +22,7 @@ from cases import ADD, COMPARE, REROUND, SUBTRACT, Draw, all_cases
 from desk import desk, lines_of
 from doubles import ABOVE, BELOW, EXACT, enclosing_pair, from_double, rounded_to_double, to_double
 from kernel import (
-    BASE, DOWN, MODES, NEAREST, REGULAR, TOWARD_ZERO, UP, ZERO, Term, add, digits_of, digits_ok,
+    BASE, DOWN, MODES, NEAREST, REGULAR, TOWARD_ZERO, UP, ZERO, add, digits_of, digits_ok,
     limb_count, outcome, power, regular, reround, select, subtract, term_of, turn_sign,
 )
 from lines import line_of, read_line, write_line
@@ -124,7 +124,9 @@ def check_double_range():
             continue
         term = term_of(number)
         chosen, _ = by_fractions(exact_value(term.sign * term.digits, term.scale), 53, mode)
-        expected = 12 if abs(chosen) > Fraction(sys.float_info.max) else 13 if abs(chosen) < Fraction(sys.float_info.min) else 0
+        above = abs(chosen) > Fraction(sys.float_info.max)
+        below = abs(chosen) < Fraction(sys.float_info.min)
+        expected = 12 if above else 13 if below else 0
         same("range of doubles", told.refusal, expected, number, mode)
 
 

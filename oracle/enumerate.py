@@ -13,6 +13,7 @@ import time
 from bisect import bisect_left, bisect_right
 from dataclasses import replace
 from fractions import Fraction
+from itertools import product
 
 from kernel import (
     DOWN, MODES, REGULAR, TOWARD_ZERO, UP, ZERO, Limits, Number, Term, add, compare, depth_bound,
@@ -158,47 +159,52 @@ def all_signs(count):
     return [(1,), (-1,)] if count == 1 else [(a, b) for a in (1, -1) for b in (1, -1)]
 
 
+def layers_of(shape):
+    """(k, class) for every k up to the deepest column that holds a bit."""
+    return [(k, members) for k in range(1, shape.deepest + 1) for members in shape.classes(k)]
+
+
 def check_shape(tally, shape, definition, precisions, modes=MODES):
     """Every class of a shape, at every k: fixed by the ends exactly when by the definition."""
-    limits, floor = shape.limits, definition.floor
-    layers = [(k, shape.classes(k)) for k in range(1, shape.deepest + 1)]
-    for signs in all_signs(len(shape.places)):
-        for k, classes in layers:
-            for members in classes:
-                amounts = {shape.amount(signs, member, floor) for member in members}
-                terms = shape.terms(signs, members[0])
-                least, greatest, scale = ends(terms, k, limits)
-                low, high = (end * 2 ** (scale - floor) for end in (least, greatest))
-                tally.same("ends attained", (low, high), (min(amounts), max(amounts)), shape.places, signs, members[0], k)
-                for precision in precisions:
-                    for mode in modes:
-                        answers = {definition.answer(amount, precision, mode) for amount in amounts}
-                        verdict = fixed(terms, k, precision, mode, limits)
-                        tally.same("fixed", verdict, len(answers) == 1,
-                                   shape.places, signs, members[0], k, precision, mode)
+    asked_for = list(product(precisions, modes))
+    for signs, (k, members) in product(all_signs(len(shape.places)), layers_of(shape)):
+        amounts = {shape.amount(signs, member, definition.floor) for member in members}
+        terms = shape.terms(signs, members[0])
+        where = (shape.places, signs, members[0], k)
+        check_ends(tally, terms, k, amounts, definition, where)
+        for precision, mode in asked_for:
+            answers = {definition.answer(amount, precision, mode) for amount in amounts}
+            verdict = fixed(terms, k, precision, mode, shape.limits)
+            tally.same("fixed", verdict, len(answers) == 1, *where, precision, mode)
+
+
+def check_ends(tally, terms, k, amounts, definition, where):
+    """The ends are the least and the greatest sum of the class, so both are attained."""
+    least, greatest, scale = ends(terms, k, definition.limits)
+    reach = tuple(end * 2 ** (scale - definition.floor) for end in (least, greatest))
+    tally.same("ends attained", reach, (min(amounts), max(amounts)), *where)
+
+
+def depths_of(shape, signs, definition, precision, mode):
+    """The depth of every pair of a shape, by the definition."""
+    depths = {}
+    for k, members in layers_of(shape):
+        amounts = {shape.amount(signs, member, definition.floor) for member in members}
+        if len({definition.answer(amount, precision, mode) for amount in amounts}) == 1:
+            for member in members:
+                depths.setdefault(member, k)
+    return depths
 
 
 def check_answers(tally, shape, definition, precision, mode):
     """Whole answers of add, subtract and re-round, with the depth by definition."""
-    limits, floor = shape.limits, definition.floor
-    layers = [(k, shape.classes(k)) for k in range(1, shape.deepest + 1)]
+    floor = definition.floor
     for signs in all_signs(len(shape.places)):
-        depths = {}
-        for k, classes in layers:
-            for members in classes:
-                answers = {
-                    definition.answer(shape.amount(signs, member, floor), precision, mode)
-                    for member in members
-                }
-                if len(answers) == 1:
-                    for member in members:
-                        depths.setdefault(member, k)
-        for member, depth in depths.items():
-            amount = shape.amount(signs, member, floor)
-            expected = (definition.answer(amount, precision, mode), depth,
-                        touched(shape, depth, 0), touched(shape, depth, 1))
+        for member, depth in depths_of(shape, signs, definition, precision, mode).items():
+            told = definition.answer(shape.amount(signs, member, floor), precision, mode)
+            expected = (told, depth, touched(shape, depth, 0), touched(shape, depth, 1))
             for answer in asked(shape, signs, member, precision, mode):
-                tally.same("whole answers", flat(answer, floor, limits), expected,
+                tally.same("whole answers", flat(answer, floor, shape.limits), expected,
                            shape.places, signs, member, precision, mode)
 
 
@@ -263,12 +269,9 @@ def narrow_run(tally, width, digits, reach):
     limits = Limits(width, 2, digits, -reach, reach, far=10**6)
     definition = definition_for(limits, -reach, reach, digits, digits)
     exponents, precisions = range(-reach, reach + 1), range(2, digits + 1)
-    for m in precisions:
-        for e in exponents:
-            check_shape(tally, Shape([(m, e)], limits), definition, precisions)
-            for n in precisions:
-                for f in exponents:
-                    check_shape(tally, Shape([(m, e), (n, f)], limits), definition, precisions)
+    places = list(product(precisions, exponents))
+    for chosen in [(place,) for place in places] + list(product(places, places)):
+        check_shape(tally, Shape(chosen, limits), definition, precisions)
 
 
 def wide_run(tally, width, digits, gaps):
@@ -276,11 +279,8 @@ def wide_run(tally, width, digits, gaps):
     limits = Limits(width, 2, digits, -100, 100, far=10**6)
     definition = definition_for(limits, -gaps, 0, digits, digits)
     precisions = range(2, digits + 1)
-    for m in precisions:
-        for n in precisions:
-            for gap in range(gaps + 1):
-                shape = Shape([(m, 0), (n, -gap)], limits)
-                check_shape(tally, shape, definition, precisions)
+    for m, n, gap in product(precisions, precisions, range(gaps + 1)):
+        check_shape(tally, Shape(((m, 0), (n, -gap)), limits), definition, precisions)
 
 
 def sampled_run(tally, width, digits, reach, count, seed):
@@ -351,47 +351,49 @@ def form_run(tally, width):
 def order_run(tally, width):
     """Compare against the order of exact fractions, zeros included."""
     limits = Limits(width, 2, 4, -3, 3, far=8)
-    entries = []
-    for negative in (False, True):
-        entries.append((zero(negative, 3, limits=limits), Fraction(0)))
-        for p in (2, 3, 4):
-            for e in (-3, 0, 1, 3):
-                for digits in range(2 ** (p - 1), 2**p):
-                    sign = -1 if negative else 1
-                    entries.append((regular(sign, digits, p, e, limits), sign * digits * Fraction(2) ** (e - p)))
-    for x, left in entries:
-        for y, right in entries:
-            tally.same("order", compare(x, y, limits), ((left > right) - (left < right), 0, 0), x, y)
+    entries = [(zero(negative, 3, limits=limits), Fraction(0)) for negative in (False, True)]
+    for sign, p, e in product((1, -1), (2, 3, 4), (-3, 0, 1, 3)):
+        for digits in range(2 ** (p - 1), 2**p):
+            value = sign * digits * Fraction(2) ** (e - p)
+            entries.append((regular(sign, digits, p, e, limits), value))
+    for (x, left), (y, right) in product(entries, entries):
+        tally.same("order", compare(x, y, limits), ((left > right) - (left < right), 0, 0), x, y)
 
 
 def selection_run(tally):
     """Selected numbers against the list of all p-digit numbers."""
     limits = Limits(2, 2, 6, -100, 100)
     definition = Definition(limits, -6, 12, -12)
-    for p in range(2, 7):
-        for whole in range(-600, 601):
-            for mode in MODES:
-                result = outcome(whole, -3, p, mode, limits)
-                expected = definition.answer(whole * 2**9, p, mode)
-                if result.kind == ZERO:
-                    told = ("zero",)
-                else:
-                    amount = result.digits * 2 ** (result.exponent - p + 12)
-                    told = (-amount if result.negative else amount, result.exponent, result.ternary)
-                tally.same("selection", told, expected, whole, p, mode)
+    for p, whole, mode in product(range(2, 7), range(-600, 601), MODES):
+        result = outcome(whole, -3, p, mode, limits)
+        amount = result.digits * 2 ** max(result.exponent - p + 12, 0)
+        told = (-amount if result.negative else amount, result.exponent, result.ternary)
+        expected = definition.answer(whole * 2**9, p, mode)
+        tally.same("selection", ("zero",) if result.kind == ZERO else told, expected, whole, p, mode)
 
 
-def main():
-    tally, start = Tally(), time.time()
+SHORT = dict(narrow=(3, 2), wide=(4, 9), sampled=(6, 6, 120))
+LONG = dict(narrow=(4, 3), wide=(5, 12), sampled=(7, 7, 400))
+
+
+def run(sizes):
+    tally = Tally()
     selection_run(tally)
     for width in (2, 3):
         form_run(tally, width)
         order_run(tally, width)
         far_run(tally, width, 9)
         bound_run(tally, width, 9)
-        narrow_run(tally, width, 3, 2)
-        wide_run(tally, width, 4, 9)
-        sampled_run(tally, width, 6, 6, 150, seed=width)
+        narrow_run(tally, width, *sizes["narrow"])
+        wide_run(tally, width, *sizes["wide"])
+        sampled_run(tally, width, *sizes["sampled"], seed=width)
+    return tally
+
+
+def main(words):
+    """`long` as the one word runs more digits, gaps and exponents, in some minutes."""
+    start = time.time()
+    tally = run(LONG if words == ["long"] else SHORT)
     for check, states in tally.states.items():
         print(f"{check}: {states} states")
     print(f"{sum(tally.states.values())} states in {time.time() - start:.0f} s")
@@ -402,4 +404,4 @@ def main():
 
 
 if __name__ == "__main__":
-    sys.exit(main())
+    sys.exit(main(sys.argv[1:]))
