@@ -1,0 +1,10 @@
+pub mod Columns
+pub mod Reach
+pub mod Amounts
+pub mod Meet
+pub mod EndsDecide
+pub mod Least
+pub mod Subtract
+pub mod AllRead
+pub mod Hole
+pub mod Far
