@@ -8,3 +8,5 @@ pub mod Subtract
 pub mod AllRead
 pub mod Hole
 pub mod Far
+pub mod Bounds
+pub mod ExactRead
