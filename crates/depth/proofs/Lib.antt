@@ -10,3 +10,13 @@ pub mod Hole
 pub mod Far
 pub mod Bounds
 pub mod ExactRead
+pub mod Lean
+pub mod Settled
+pub mod Carry
+pub mod Short
+pub mod Range
+pub mod Answered
+pub mod Rows
+pub mod RowsFar
+pub mod Pair
+pub mod HoleTest

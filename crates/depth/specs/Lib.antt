@@ -2,3 +2,4 @@ pub mod Columns
 pub mod Depth
 pub mod Read
 pub mod Bound
+pub mod Decide

@@ -1,0 +1,212 @@
+-- What a program decides after k columns, on plain whole numbers. Definitions only.
+-- The cut unit is the weight of the last digit read. The least sum is n cut units and perhaps some more, the greatest n + i units and perhaps some more.
+use Prim.Native.Nat.{ℕ, zero, suc, _+_, _-_, _*_, _/_, _%_, _^_, compare, Ordering, Ordering·lt, Ordering·eq, Ordering·gt}
+use mathlib.Core.Bool.{Bool, true, false, not, cond, _&&_, _||_, Bool·beq}
+use lib.Dec.{ltb, leb, eqb}
+use lib.Ieee.{size}
+use Rattle.number.specs.Operand.{Operand, mantissa, lastWeight}
+use Rattle.rounding.specs.Sum.{scale}
+use Rattle.depth.specs.Columns.{topExponent}
+use Rattle.depth.specs.Read.{unread}
+use Rattle.rounding.specs.Mode.{Mode, way, Way, near, under, over}
+use Rattle.rounding.specs.Answer.{Answer, number, tooLarge, tooSmall, ranged, signed}
+use Rattle.number.specs.Limits.{leastExponent, mostExponent}
+
+-- from the remainder r of a division by u, with quotient q, and whether more lies below r: the sign of selected - exact, on magnitudes
+unfoldable pub tie : Bool → ℕ → Ordering → Ordering
+tie more q Ordering·lt = Ordering·lt
+tie true q Ordering·eq = Ordering·gt
+tie false q Ordering·eq = cond (eqb (q % 2) 0) Ordering·lt Ordering·gt
+tie more q Ordering·gt = Ordering·gt
+
+unfoldable pub off : Way → ℕ → ℕ → ℕ → Bool → Ordering
+off under q u r more = Ordering·lt
+off over q u r more = Ordering·gt
+off near q u r more = tie more q (compare (r * 2) u)
+
+unfoldable pub lean : Way → ℕ → ℕ → ℕ → Bool → Ordering
+lean w q u r more = cond (not more && eqb r 0) Ordering·eq (off w q u r more)
+
+-- what is selected, in units
+unfoldable pub step : Ordering → ℕ → ℕ
+step Ordering·lt q = q
+step Ordering·eq q = q
+step Ordering·gt q = suc q
+
+abbrev pub alike : Ordering → Ordering → Bool
+alike Ordering·lt Ordering·lt = true
+alike Ordering·eq Ordering·eq = true
+alike Ordering·gt Ordering·gt = true
+alike Ordering·lt Ordering·eq = false
+alike Ordering·lt Ordering·gt = false
+alike Ordering·eq Ordering·lt = false
+alike Ordering·eq Ordering·gt = false
+alike Ordering·gt Ordering·lt = false
+alike Ordering·gt Ordering·eq = false
+
+-- enough digits: p, and under nearest one more
+unfoldable pub enough : Way → ℕ → ℕ → Bool
+enough near p n = ltb p (size n)
+enough under p n = leb p (size n)
+enough over p n = leb p (size n)
+
+-- the least sum is n units (and more, if ml), the greatest n + i (and more, if mg): do both round alike?
+unfoldable pub settled : Way → ℕ → ℕ → Bool → ℕ → Bool → Bool
+settled w p n ml i mg =
+    let u = 2 ^ (size n - p) in
+    enough w p n && (ltb (n % u + i) u && alike (lean w (n / u) u (n % u) ml) (lean w (n / u) u (n % u + i) mg))
+
+-- ---- refusals
+
+-- q of p digits goes up to 2 ^ p
+unfoldable pub bump : Ordering → ℕ → ℕ → ℕ
+bump Ordering·lt p q = 0
+bump Ordering·eq p q = 0
+bump Ordering·gt p q = cond (eqb (suc q) (2 ^ p)) 1 0
+
+-- is the number that is selected for n units (and more) longer than n by a digit, where there are enough digits
+unfoldable pub carry : Way → ℕ → ℕ → Bool → ℕ
+carry w p n more = let u = 2 ^ (size n - p) in bump (lean w (n / u) u (n % u) more) p (n / u)
+
+-- else: the least lies at most half a unit above n; `half`: just a half. All ones can then go up only at a tie
+unfoldable pub shortLeast : Way → ℕ → ℕ → Bool → ℕ
+shortLeast near p n half = cond (half && eqb (suc n) (2 ^ p)) 1 0
+shortLeast under p n half = 0
+shortLeast over p n half = 0
+
+-- else: the greatest has n and then `tail` ones
+unfoldable pub shortMost : Way → ℕ → ℕ → ℕ → ℕ
+shortMost under p n tail = 0
+shortMost near p n tail = cond (eqb (suc n) (2 ^ size n) && ltb p (size n + tail)) 1 0
+shortMost over p n tail = cond (eqb (suc n) (2 ^ size n) && ltb p (size n + tail)) 1 0
+
+-- the cut unit is 2 ^ e
+unfoldable pub large? : Way → ℕ → ℕ → ℕ → Bool → Bool → Bool
+large? w p e n ml half = ltb mostExponent (size n + cond (enough w p n) (carry w p n ml) (shortLeast w p n half) + e)
+
+unfoldable pub small? : Way → ℕ → ℕ → ℕ → Bool → ℕ → Bool
+small? w p e n mg tail = ltb (size n + cond (enough w p n) (carry w p n mg) (shortMost w p n tail) + e) leastExponent
+
+unfoldable pub decided : Way → ℕ → ℕ → ℕ → Bool → Bool → ℕ → Bool → ℕ → Bool
+decided w p e n ml half i mg tail = settled w p n ml i mg || (large? w p e n ml half || small? w p e (n + i) mg tail)
+
+-- where the sum cannot be too small; where it cannot be too large unless settled
+unfoldable pub orLarge : Way → ℕ → ℕ → ℕ → Bool → Bool → ℕ → Bool → Bool
+orLarge w p e n ml half i mg = settled w p n ml i mg || large? w p e n ml half
+
+unfoldable pub orSmall : Way → ℕ → ℕ → ℕ → Bool → ℕ → Bool → ℕ → Bool
+orSmall w p e n ml i mg tail = settled w p n ml i mg || small? w p e (n + i) mg tail
+
+-- the answer, once settled: q or q + 1, and where that is 2 ^ p, its half and the next exponent; g is the sign
+unfoldable pub settledAnswer : Way → ℕ → ℕ → Bool → ℕ → Bool → Answer
+settledAnswer w p e g n ml =
+    let u = 2 ^ (size n - p) in
+    let d = lean w (n / u) u (n % u) ml in
+    let m = step d (n / u) in
+    let c = size n + carry w p n ml + e in
+    ranged c (number g c (cond (eqb m (2 ^ p)) (2 ^ (p - 1)) m) (signed g d))
+
+-- the answer wherever the decision holds
+unfoldable pub decidedAnswer : Way → ℕ → ℕ → Bool → ℕ → Bool → Bool → ℕ → Bool → Answer
+decidedAnswer w p e g n ml half i mg = cond (settled w p n ml i mg) (settledAnswer w p e g n ml) (cond (large? w p e n ml half) tooLarge tooSmall)
+
+-- ---- the rows of the table. x and y: the digits read, in cut units; u and v: how many are unread. Both reach into what is read, or y is 0
+
+abbrev pub some? : ℕ → Bool
+some? zero = false
+some? (suc u) = true
+
+-- same signs; one unread digit each reach the next unit and no further
+unfoldable pub sameSigns : Way → ℕ → ℕ → ℕ → ℕ → ℕ → ℕ → Bool
+sameSigns w p e x zero y zero = true
+sameSigns w p e x (suc u) y zero = orLarge w p e (x + y) false false 0 true
+sameSigns w p e x zero y (suc v) = orLarge w p e (x + y) false false 0 true
+sameSigns w p e x (suc u) y (suc v) = orLarge w p e (x + y) false false 1 (some? u || some? v)
+
+-- unlike signs, y < x
+unfoldable pub unlikeSigns : Way → ℕ → ℕ → ℕ → ℕ → ℕ → ℕ → Bool
+unlikeSigns w p e x zero y zero = true
+unlikeSigns w p e x (suc u) y zero = orSmall w p e (x - y) false 0 true (suc u)
+unlikeSigns w p e x zero y (suc v) = orSmall w p e (x - y - 1) true 1 false 0
+unlikeSigns w p e x (suc u) y (suc v) = orSmall w p e (x - y - 1) true 1 true (suc u)
+
+-- ---- nothing of y is read: its first digit lies f digits below the cut, next to it where f is 0
+
+-- x is unread: u of its digits
+unfoldable pub farSame : Way → ℕ → ℕ → ℕ → ℕ → ℕ → Bool
+farSame w p e x u f = orLarge w p e x true (not (some? f)) (cond (ltb f u) 1 0) true
+
+unfoldable pub farUnlike : Way → ℕ → ℕ → ℕ → ℕ → Bool
+farUnlike w p x u f = settled w p (x - 1) true 1 (some? (u - 1) || some? f)
+
+-- the hole: x is read. Counted in units of y's first digit, 2 ^ e, x is z
+unfoldable pub holeSame : Way → ℕ → ℕ → ℕ → Bool
+holeSame w p e z = decided w p e (z + 1) false false 0 true 0
+
+unfoldable pub holeUnlike : Way → ℕ → ℕ → ℕ → Bool
+holeUnlike w p e z = decided w p e (z - 2) true false 1 false 0
+
+abbrev pub odd? : ℕ → Bool
+odd? y = not (eqb (y % 2) 0)
+
+-- the same without large numbers: `digits` is the size of z + 1, or of z - 2, and `odd` says whether z / 2 is odd
+unfoldable pub hole? : Way → ℕ → ℕ → Bool → Bool
+hole? near p digits odd = ltb (p + 1) digits || (eqb (p + 1) digits && odd)
+hole? under p digits odd = ltb p digits
+hole? over p digits odd = ltb p digits
+
+-- ---- with the signs: x's is a, y's is b. The larger of unlike signs gives its own; equal read parts settle nothing while a digit is unread
+
+unfoldable pub unlikePair : Mode → ℕ → ℕ → Bool → ℕ → ℕ → ℕ → ℕ → Bool
+unlikePair o p e a x u y v =
+    cond (ltb y x) (unlikeSigns (way o a) p e x u y v)
+    (cond (ltb x y) (unlikeSigns (way o (not a)) p e y v x u) (not (some? u || some? v)))
+
+unfoldable pub seenPair : Mode → ℕ → ℕ → Bool → Bool → ℕ → ℕ → ℕ → ℕ → Bool
+seenPair o p e a b x u y v = cond (Bool·beq a b) (sameSigns (way o a) p e x u y v) (unlikePair o p e a x u y v)
+
+unfoldable pub farPair : Mode → ℕ → ℕ → Bool → Bool → ℕ → ℕ → ℕ → Bool
+farPair o p e a b x u f = cond (Bool·beq a b) (farSame (way o a) p e x u f) (farUnlike (way o a) p x u f)
+
+unfoldable pub holePair : Mode → ℕ → ℕ → Bool → Bool → ℕ → Bool
+holePair o p e a b z = cond (Bool·beq a b) (holeSame (way o a) p e z) (holeUnlike (way o a) p e z)
+
+-- z = m * 2 ^ suc f: x's digits are m, and its last stands f digits above y's first
+unfoldable pub holeBySize : Mode → ℕ → Bool → Bool → ℕ → ℕ → Bool
+holeBySize o p a b m f =
+    let odd = odd? m && not (some? f) in
+    let z = size m + f + 1 in
+    cond (Bool·beq a b) (hole? (way o a) p z odd) (hole? (way o a) p (z - cond (eqb m (2 ^ (size m - 1))) 1 0) odd)
+
+-- ---- on the operands, after k columns
+
+-- does z reach into the columns read
+unfoldable pub reaches? : ℕ → ℕ → Operand → Bool
+reaches? t k z = z .isZero || ltb (t - z .exponent) (64 * k)
+
+-- its digits that are read; and these in cut units, s being the lowest weight present
+unfoldable pub readDigits : ℕ → ℕ → Operand → ℕ
+readDigits t k z = cond (z .isZero) 0 (mantissa z / 2 ^ unread t k z)
+
+unfoldable pub readPart : ℕ → ℕ → ℕ → Operand → ℕ
+readPart t k s z = readDigits t k z * 2 ^ (unread t k z + (lastWeight z - s) - (t - 64 * k - s))
+
+unfoldable pub leftOver : ℕ → ℕ → Operand → ℕ
+leftOver t k z = cond (z .isZero) 0 (unread t k z)
+
+-- x reaches into the columns read, and y does not
+unfoldable pub beyond : Mode → ℕ → Operand → Operand → ℕ → ℕ → ℕ → Bool
+beyond o p x y k t s =
+    cond (some? (unread t k x))
+    (farPair o p (t - 64 * k - s + s) (x .negative) (y .negative) (readPart t k s x) (unread t k x) (t - 64 * k - y .exponent))
+    (holeBySize o p (x .negative) (y .negative) (readDigits t k x) (lastWeight x - y .exponent))
+
+unfoldable pub decideAt : Mode → ℕ → Operand → Operand → ℕ → Bool
+decideAt o p x y k =
+    let t = topExponent x y in
+    let s = scale x y in
+    cond (reaches? t k x)
+    (cond (reaches? t k y)
+    (seenPair o p (t - 64 * k - s + s) (x .negative) (y .negative) (readPart t k s x) (leftOver t k x) (readPart t k s y) (leftOver t k y))
+    (beyond o p x y k t s))
+    (beyond o p y x k t s)
