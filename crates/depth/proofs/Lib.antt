@@ -20,3 +20,6 @@ pub mod Rows
 pub mod RowsFar
 pub mod Pair
 pub mod HoleTest
+pub mod ReadPart
+pub mod Beyond
+pub mod Decision

@@ -1,0 +1,335 @@
+-- The decision on what is read of the operands holds exactly when k columns fix the answer.
+use mathlib.Core.Path.{_≡_, refl, sym, ap, _∙_, subst}
+use mathlib.Core.Logic.{_⊎_, inl, inr}
+use mathlib.Core.Bool.{Bool, true, false, not, cond, _&&_, _||_}
+use Prim.Native.Nat.{ℕ, zero, suc, _+_, _-_, _*_, _/_, _%_, _^_, _≤_, _<_, min, max, compare}
+use native.Mathlib.Nat.{le-refl, le-trans, le-of-eq, add-comm, zero-mul}
+use native.Mathlib.Omega.{arith}
+use borrow.Author.Tests.{ltb-true, ltb-false}
+use lib.Dec.{ltb}
+use Rattle.number.specs.Operand.{Operand, mantissa, lastWeight, WellFormed}
+use Rattle.rounding.specs.Mode.{Mode}
+use Rattle.rounding.specs.Sum.{scale, share, amount, zeroSign}
+use Rattle.rounding.specs.Answer.{answer}
+use Rattle.depth.specs.Columns.{topExponent, Like}
+use Rattle.depth.specs.Read.{unread}
+use Rattle.depth.specs.Depth.{plus, Fixed, Open, Deciding}
+use Rattle.depth.proofs.Columns.{read-of, top-first, top-second}
+use Rattle.depth.proofs.Reach.{end}
+use Rattle.depth.proofs.Amounts.{low-like}
+use Rattle.depth.proofs.EndsDecide.{Alike, own-first, own-second, other-first, other-second, fixed-if, fixed-or}
+use Rattle.depth.proofs.Least.{not-both}
+use Rattle.depth.specs.Decide.{reaches?, readDigits, readPart, leftOver, beyond, seenPair, decideAt}
+use Rattle.depth.proofs.Rows.{Seen, Held}
+use Rattle.depth.proofs.Pair.{Decides, Ends, Pair, seen-pair}
+use Rattle.depth.proofs.ReadPart.{seen-is, seen-held, seen-pos, nil-seen, nil-held}
+use Rattle.depth.proofs.Beyond.{digits-are, read-is, beyond-decides}
+
+-- ---- the exponents and weights of a regular operand of the pair
+
+first-least : (a b : Bool) (m n : ℕ) → a ≡ false → cond a n (cond b m (min m n)) ≤ m
+first-least true b m n e = absurd (let z : _≡_ {A = ℕ} 0 1 = cc in omega arith)
+first-least false true m n e = le-refl m
+first-least false false m n e = omega arith
+
+second-least : (a b : Bool) (m n : ℕ) → b ≡ false → cond a n (cond b m (min m n)) ≤ n
+second-least true b m n e = le-refl n
+second-least false true m n e = absurd (let z : _≡_ {A = ℕ} 0 1 = cc in omega arith)
+second-least false false m n e = omega arith
+
+scale-x : (x y : Operand) → x .isZero ≡ false → scale x y ≤ lastWeight x
+unfolding scale
+scale-x x y r = first-least (x .isZero) (y .isZero) (lastWeight x) (lastWeight y) r
+
+scale-y : (x y : Operand) → y .isZero ≡ false → scale x y ≤ lastWeight y
+unfolding scale
+scale-y x y r = second-least (x .isZero) (y .isZero) (lastWeight x) (lastWeight y) r
+
+-- where nothing of one is read, the other is regular and stands at the top
+other-top : (x y : Operand) (k : ℕ) → 1 ≤ k → y .isZero ≡ false → 64 * k ≤ topExponent x y - y .exponent → (x .isZero ≡ false) × (topExponent x y ≡ x .exponent)
+unfolding topExponent
+other-top x y k K q u = go (x .isZero) refl u
+  where
+    flat : (e : ℕ) → 64 * k ≤ e - e → ⊥
+    flat e h = omega arith
+
+    tall : (a b : ℕ) → 64 * k ≤ max a b - b → max a b ≡ a
+    tall a b h = omega arith
+
+    go : (b : Bool) → x .isZero ≡ b → 64 * k ≤ cond (x .isZero) (y .exponent) (cond (y .isZero) (x .exponent) (max (x .exponent) (y .exponent))) - y .exponent → (x .isZero ≡ false) × (cond (x .isZero) (y .exponent) (cond (y .isZero) (x .exponent) (max (x .exponent) (y .exponent))) ≡ x .exponent)
+    go true e h = absurd (flat (y .exponent) (rw e at h))
+    go false e h = (e, rw (e, q) (tall (x .exponent) (y .exponent) (rw (e, q) at h)))
+
+other-top' : (x y : Operand) (k : ℕ) → 1 ≤ k → x .isZero ≡ false → 64 * k ≤ topExponent x y - x .exponent → (y .isZero ≡ false) × (topExponent x y ≡ y .exponent)
+unfolding topExponent
+other-top' x y k K r u = go (y .isZero) refl (rw r at u)
+  where
+    flat : (e : ℕ) → 64 * k ≤ e - e → ⊥
+    flat e h = omega arith
+
+    tall : (a b : ℕ) → 64 * k ≤ max a b - a → max a b ≡ b
+    tall a b h = omega arith
+
+    go : (b : Bool) → y .isZero ≡ b → 64 * k ≤ cond (y .isZero) (x .exponent) (max (x .exponent) (y .exponent)) - x .exponent → (y .isZero ≡ false) × (cond (x .isZero) (y .exponent) (cond (y .isZero) (x .exponent) (max (x .exponent) (y .exponent))) ≡ y .exponent)
+    go true e h = absurd (flat (x .exponent) (rw e at h))
+    go false e h = (e, rw (r, e) (tall (x .exponent) (y .exponent) (rw e at h)))
+
+-- ---- an operand that reaches into what is read
+
+reach-cases : (t k : ℕ) (z : Operand) → reaches? t k z ≡ true → (z .isZero ≡ true) ⊎ ((z .isZero ≡ false) × (t - z .exponent < 64 * k))
+unfolding reaches?
+reach-cases t k z e = go (z .isZero) refl
+  where
+    go : (b : Bool) → z .isZero ≡ b → (z .isZero ≡ true) ⊎ ((z .isZero ≡ false) × (t - z .exponent < 64 * k))
+    go true f = inl f
+    go false f = inr (f, ltb-true (t - z .exponent) (64 * k) (rw f at e))
+
+not-reached : (t k : ℕ) (z : Operand) → reaches? t k z ≡ false → (z .isZero ≡ false) × (64 * k ≤ t - z .exponent)
+unfolding reaches?
+not-reached t k z e = go (z .isZero) refl
+  where
+    go : (b : Bool) → z .isZero ≡ b → (z .isZero ≡ false) × (64 * k ≤ t - z .exponent)
+    go true f = absurd (let g : (true || ltb (t - z .exponent) (64 * k)) ≡ false = rw f at e in let z : _≡_ {A = ℕ} 0 1 = cc in omega arith)
+    go false f = (f, ltb-false (t - z .exponent) (64 * k) (rw f at e))
+
+digits-nil : (t k : ℕ) (z : Operand) → z .isZero ≡ true → readDigits t k z ≡ 0
+unfolding readDigits
+digits-nil t k z e = rw e
+
+read-nil : (t k s : ℕ) (z : Operand) → z .isZero ≡ true → readPart t k s z ≡ 0
+unfolding readPart
+read-nil t k s z e = ap (λ (n : ℕ). n * 2 ^ (unread t k z + (lastWeight z - s) - (t - 64 * k - s))) (digits-nil t k z e) ∙ zero-mul _
+
+left-nil : (t k : ℕ) (z : Operand) → z .isZero ≡ true → leftOver t k z ≡ 0
+unfolding leftOver
+left-nil t k z e = rw e
+
+left-is : (t k : ℕ) (z : Operand) → z .isZero ≡ false → leftOver t k z ≡ unread t k z
+unfolding leftOver
+left-is t k z e = rw e
+
+record ReadIn (t k s : ℕ) (z : Operand) : Type 0 where
+  seen : Seen (t - 64 * k - s) (readPart t k s z) (leftOver t k z) (amount s (end t k z false)) (amount s (end t k z true))
+  held : Held s (t - 64 * k - s) (readPart t k s z)
+  pos : z .isZero ≡ false → 0 < readPart t k s z
+
+read-in : (t k s : ℕ) (z : Operand) → WellFormed z → (z .isZero ≡ false → z .exponent ≤ t) → (z .isZero ≡ false → s ≤ lastWeight z) → reaches? t k z ≡ true → ReadIn t k s z
+read-in t k s z g top sc e = go (reach-cases t k z e)
+  where
+    by : {n u : ℕ} → readPart t k s z ≡ n → leftOver t k z ≡ u → Seen (t - 64 * k - s) n u (amount s (end t k z false)) (amount s (end t k z true)) → Held s (t - 64 * k - s) n → (z .isZero ≡ false → 0 < n) → ReadIn t k s z
+    by {n} {u} a b c d f = record {
+      seen = subst (λ (m : ℕ). Seen (t - 64 * k - s) m (leftOver t k z) (amount s (end t k z false)) (amount s (end t k z true))) (sym a) (subst (λ (m : ℕ). Seen (t - 64 * k - s) n m (amount s (end t k z false)) (amount s (end t k z true))) (sym b) c);
+      held = subst (Held s (t - 64 * k - s)) (sym a) d;
+      pos = λ h. subst (λ (m : ℕ). 0 < m) (sym a) (f h);
+    }
+
+    go : (z .isZero ≡ true) ⊎ ((z .isZero ≡ false) × (t - z .exponent < 64 * k)) → ReadIn t k s z
+    go (inl f) = by (read-nil t k s z f) (left-nil t k z f) (nil-seen t k s z g f (t - 64 * k - s)) (nil-held s (t - 64 * k - s)) (λ h. absurd (let z : _≡_ {A = ℕ} 0 1 = cc in omega arith))
+    go (inr f) =
+        let r = f .0 in
+        by (read-is t k s z r) (left-is t k z r) (seen-is t k s z g r (top r) (sc r) (f .1)) (seen-held t k s z g r (top r) (sc r) (f .1)) (λ h. seen-pos t k s z g r (top r) (sc r) (f .1))
+
+-- ---- the ends of the pair, by amounts
+
+swap : (neg : Bool) (o : Mode) (p s : ℕ) (P : 0 < p) (c : Bool) (a b : Bool) (xl xh yl yh : ℕ) → Decides c (Pair neg o p s P b a yl yh xl xh) → Decides c (Pair neg o p s P a b xl xh yl yh)
+swap neg o p s P c false false xl xh yl yh d = rw (add-comm xl yl, add-comm xh yh) d
+swap neg o p s P c true true xl xh yl yh d = rw (add-comm xl yl, add-comm xh yh) d
+swap neg o p s P c false true xl xh yl yh d = d
+swap neg o p s P c true false xl xh yl yh d = d
+
+module _ (o : Mode) (p : ℕ) (P : 0 < p) (x y : Operand) (g : WellFormed x) (h : WellFormed y) (some : (x .isZero && y .isZero) ≡ false) (k : ℕ) (K : 1 ≤ k) where
+  abbrev t : ℕ
+  t = topExponent x y
+
+  abbrev s : ℕ
+  s = scale x y
+
+  -- a zero's sign
+  abbrev neg : Bool
+  neg = zeroSign o (x .negative) (y .negative)
+
+  abbrev xl : ℕ
+  xl = amount s (end t k x false)
+
+  abbrev xh : ℕ
+  xh = amount s (end t k x true)
+
+  abbrev yl : ℕ
+  yl = amount s (end t k y false)
+
+  abbrev yh : ℕ
+  yh = amount s (end t k y true)
+
+  abbrev Ends-same : Type 0
+  Ends-same = Alike o p x y P g h k K
+
+  abbrev Amounts-same : Type 0
+  Amounts-same = Pair neg o p s P (x .negative) (y .negative) xl xh yl yh
+
+  -- both reach into what is read
+  one-regular : (a b : Bool) → x .isZero ≡ a → y .isZero ≡ b → (x .isZero ≡ false) ⊎ (y .isZero ≡ false)
+  one-regular false b e f = inl e
+  one-regular true false e f = inr f
+  one-regular true true e f = absurd (let z : _≡_ {A = ℕ} 0 1 = cc in omega arith)
+
+  both : reaches? t k x ≡ true → reaches? t k y ≡ true → Decides (seenPair o p (t - 64 * k - s + s) (x .negative) (y .negative) (readPart t k s x) (leftOver t k x) (readPart t k s y) (leftOver t k y)) Amounts-same
+  both e f =
+      let a = read-in t k s x g (top-first x y) (scale-x x y) e in
+      let b = read-in t k s y h (top-second x y) (scale-y x y) f in
+      seen-pair neg o p s P (x .negative) (y .negative) (t - 64 * k - s) (readPart t k s x) (leftOver t k x) xl xh (readPart t k s y) (leftOver t k y) yl yh (a .seen) (b .seen) (a .held) (b .held)
+      (elim (one-regular (x .isZero) (y .isZero) refl refl) [ inl r ↦ left (readPart t k s x) (readPart t k s y) (a .pos r) | inr q ↦ right (readPart t k s x) (readPart t k s y) (b .pos q) ])
+    where
+      left : (m n : ℕ) → 0 < m → 0 < m + n
+      left m n h = omega arith
+
+      right : (m n : ℕ) → 0 < n → 0 < m + n
+      right m n h = omega arith
+
+  x-reaches : reaches? t k y ≡ false → Decides (beyond o p x y k t s) Amounts-same
+  x-reaches f =
+      let u = not-reached t k y f in
+      let v = other-top x y k K (u .0) (u .1) in
+      beyond-decides neg o p P x y g h (v .0) (u .0) k t s K (v .1) (scale-x x y (v .0)) (scale-y x y (u .0)) (u .1)
+
+  y-reaches : reaches? t k x ≡ false → Decides (beyond o p y x k t s) Amounts-same
+  y-reaches f =
+      let u = not-reached t k x f in
+      let v = other-top' x y k K (u .0) (u .1) in
+      swap neg o p s P (beyond o p y x k t s) (x .negative) (y .negative) xl xh yl yh (beyond-decides neg o p P y x h g (v .0) (u .0) k t s K (v .1) (scale-y x y (v .0)) (scale-x x y (u .0)) (u .1))
+
+  amounts-decided : Decides (decideAt o p x y k) Amounts-same
+  unfolding decideAt
+  amounts-decided = arm (reaches? t k x) (λ e. arm (reaches? t k y) (both e) x-reaches) y-reaches
+    where
+      arm : (b : Bool) {c d : Bool} {B : Type 0} → (b ≡ true → Decides c B) → (b ≡ false → Decides d B) → Decides (cond b c d) B
+      arm true m n = m refl
+      arm false m n = n refl
+
+  -- what each end of an operand adds to the numbers above zero (false) or below it (true)
+  x-own : (b c d : Bool) → x .negative ≡ b → c ≡ d → share b s (end t k x c) ≡ amount s (end t k x d)
+  x-own b c d e f = own-first x y g h k K b c e ∙ ap (λ (v : Bool). amount s (end t k x v)) f
+
+  y-own : (b c d : Bool) → y .negative ≡ b → c ≡ d → share b s (end t k y c) ≡ amount s (end t k y d)
+  y-own b c d e f = own-second x y g h k K b c e ∙ ap (λ (v : Bool). amount s (end t k y v)) f
+
+  x-other : (b c : Bool) → x .negative ≡ not b → share b s (end t k x c) ≡ 0
+  x-other b c e = other-first x y g h k K b c e
+
+  y-other : (b c : Bool) → y .negative ≡ not b → share b s (end t k y c) ≡ 0
+  y-other b c e = other-second x y g h k K b c e
+
+  -- above and below zero, at the least end and at the greatest
+  record Shown (a b c d : ℕ) : Type 0 where
+    up-low : share false s (end t k x (x .negative)) + share false s (end t k y (y .negative)) ≡ a
+    down-low : share true s (end t k x (x .negative)) + share true s (end t k y (y .negative)) ≡ b
+    up-high : share false s (end t k x (not (x .negative))) + share false s (end t k y (not (y .negative))) ≡ c
+    down-high : share true s (end t k x (not (x .negative))) + share true s (end t k y (not (y .negative))) ≡ d
+
+  to-same : (a b c d : ℕ) → Shown a b c d → Ends neg o p s a b c d → Ends-same
+  to-same a b c d v e = let i = v .up-low in let j = v .down-low in let m = v .up-high in let n = v .down-high in let q = e .sign in let r = e .answers in record { sign = cc; answers = cc }
+
+  from-same : (a b c d : ℕ) → Shown a b c d → Ends-same → Ends neg o p s a b c d
+  from-same a b c d v e = let i = v .up-low in let j = v .down-low in let m = v .up-high in let n = v .down-high in let q = e .sign in let r = e .answers in record { sign = cc; answers = cc }
+
+  plus-zero : {m n a : ℕ} → m ≡ a → n ≡ 0 → m + n ≡ a
+  plus-zero e f = omega arith
+
+  zero-plus : {m n a : ℕ} → m ≡ 0 → n ≡ a → m + n ≡ a
+  zero-plus e f = omega arith
+
+  both-sum : {m n a b : ℕ} → m ≡ a → n ≡ b → m + n ≡ a + b
+  both-sum e f = cc
+
+  flip : {a b : Bool} → a ≡ b → not a ≡ not b
+  flip e = ap not e
+
+  shown : (a b : Bool) → x .negative ≡ a → y .negative ≡ b → (Pair neg o p s P a b xl xh yl yh → Ends-same) × (Ends-same → Pair neg o p s P a b xl xh yl yh)
+  shown false false e f =
+      let v : Shown (xl + yl) 0 (xh + yh) 0 = record {
+        up-low = both-sum (x-own false (x .negative) false e e) (y-own false (y .negative) false f f);
+        down-low = plus-zero (x-other true (x .negative) e) (y-other true (y .negative) f);
+        up-high = both-sum (x-own false (not (x .negative)) true e (flip e)) (y-own false (not (y .negative)) true f (flip f));
+        down-high = plus-zero (x-other true (not (x .negative)) e) (y-other true (not (y .negative)) f);
+      } in
+      (to-same (xl + yl) 0 (xh + yh) 0 v, from-same (xl + yl) 0 (xh + yh) 0 v)
+  shown true true e f =
+      let v : Shown 0 (xh + yh) 0 (xl + yl) = record {
+        up-low = plus-zero (x-other false (x .negative) e) (y-other false (y .negative) f);
+        down-low = both-sum (x-own true (x .negative) true e e) (y-own true (y .negative) true f f);
+        up-high = plus-zero (x-other false (not (x .negative)) e) (y-other false (not (y .negative)) f);
+        down-high = both-sum (x-own true (not (x .negative)) false e (flip e)) (y-own true (not (y .negative)) false f (flip f));
+      } in
+      (to-same 0 (xh + yh) 0 (xl + yl) v, from-same 0 (xh + yh) 0 (xl + yl) v)
+  shown false true e f =
+      let v : Shown xl yh xh yl = record {
+        up-low = plus-zero (x-own false (x .negative) false e e) (y-other false (y .negative) f);
+        down-low = zero-plus (x-other true (x .negative) e) (y-own true (y .negative) true f f);
+        up-high = plus-zero (x-own false (not (x .negative)) true e (flip e)) (y-other false (not (y .negative)) f);
+        down-high = zero-plus (x-other true (not (x .negative)) e) (y-own true (not (y .negative)) false f (flip f));
+      } in
+      (to-same xl yh xh yl v, from-same xl yh xh yl v)
+  shown true false e f =
+      let v : Shown yl xh yh xl = record {
+        up-low = zero-plus (x-other false (x .negative) e) (y-own false (y .negative) false f f);
+        down-low = plus-zero (x-own true (x .negative) true e e) (y-other true (y .negative) f);
+        up-high = zero-plus (x-other false (not (x .negative)) e) (y-own false (not (y .negative)) true f (flip f));
+        down-high = plus-zero (x-own true (not (x .negative)) false e (flip e)) (y-other true (not (y .negative)) f);
+      } in
+      (to-same yl xh yh xl v, from-same yl xh yh xl v)
+
+  -- the decision, against the definition of depth
+  pub decides-fixed : Decides (decideAt o p x y k) (Fixed plus o p x y k)
+  decides-fixed =
+      let v = shown (x .negative) (y .negative) refl refl in
+      record {
+        sound = λ e. fixed-if o p x y P g h k K (v .0 (amounts-decided .sound e));
+        complete = λ f. amounts-decided .complete (v .1 (same-of f (fixed-or o p x y P g h k K)));
+      }
+    where
+      same-of : Fixed plus o p x y k → Ends-same ⊎ Open plus o p x y k → Ends-same
+      same-of f (inl e) = e
+      same-of f (inr u) = absurd (not-both plus o p x y k f u)
+
+-- ---- two looks give the depth
+
+pub depth-decided : (o : Mode) (p : ℕ) (P : 0 < p) (x y : Operand) → WellFormed x → WellFormed y → (x .isZero && y .isZero) ≡ false → (k : ℕ) → 1 ≤ k → decideAt o p x y k ≡ true → (1 < k → decideAt o p x y (k - 1) ≡ false) → Deciding plus o p x y k
+depth-decided o p P x y g h some k K e f = record { one = K; fixed = decides-fixed o p P x y g h some k K .sound e; fewer = λ u. no-less (k - 1) (less k u) (f u) }
+  where
+    less : (k : ℕ) → 1 < k → 1 ≤ k - 1
+    less k u = omega arith
+
+    no-less : (j : ℕ) → 1 ≤ j → decideAt o p x y j ≡ false → Open plus o p x y j
+    no-less j B e = elim (fixed-or o p x y P g h j B) [
+      | inl c ↦ absurd (let d = decides-fixed o p P x y g h some j B .complete (fixed-if o p x y P g h j B c) in let z : _≡_ {A = ℕ} 0 1 = cc in omega arith)
+      | inr u ↦ u
+    ]
+
+-- ---- it is a function of what is read: pairs that agree in k columns get one decision
+
+unread-like : (t k : ℕ) (x z : Operand) → Like t k x z → unread t k z ≡ unread t k x
+unfolding unread
+unread-like t k x z l = let b = l .exponent in let c = l .precision in cc
+
+digits-like : (t k : ℕ) (x z : Operand) → WellFormed x → (x .isZero ≡ false → x .exponent ≤ t) → Like t k x z → readDigits t k z ≡ readDigits t k x
+digits-like t k x z g top l = go (x .isZero) refl
+  where
+    go : (b : Bool) → x .isZero ≡ b → readDigits t k z ≡ readDigits t k x
+    go true e = digits-nil t k z (l .isZero ∙ e) ∙ sym (digits-nil t k x e)
+    go false e = digits-are t k z (l .isZero ∙ e) ∙ ap (λ (n : ℕ). mantissa z / 2 ^ n) (unread-like t k x z l) ∙ read-of t k x g top z l e ∙ sym (digits-are t k x e)
+
+pub decides-read : (o : Mode) (p : ℕ) (x y z w : Operand) (k : ℕ) → WellFormed x → WellFormed y → Like (topExponent x y) k x z → Like (topExponent x y) k y w → decideAt o p z w k ≡ decideAt o p x y k
+unfolding decideAt reaches? beyond readPart leftOver
+decides-read o p x y z w k g h l m =
+    let a = l .isZero in let b = l .exponent in let c = l .negative in
+    let d = m .isZero in let e = m .exponent in let f = m .negative in
+    let t = top-like in let s = scale-like in
+    let u = unread-like (topExponent x y) k x z l in let v = unread-like (topExponent x y) k y w m in
+    let i = digits-like (topExponent x y) k x z g (top-first x y) l in let j = digits-like (topExponent x y) k y w h (top-second x y) m in
+    let q = low-like (topExponent x y) k x z l in let r = low-like (topExponent x y) k y w m in
+    cc
+  where
+    top-like : topExponent z w ≡ topExponent x y
+    top-like = unfold topExponent in let a = l .isZero in let b = l .exponent in let d = m .isZero in let e = m .exponent in cc
+
+    scale-like : scale z w ≡ scale x y
+    scale-like = unfold scale in let a = l .isZero in let d = m .isZero in let q = low-like (topExponent x y) k x z l in let r = low-like (topExponent x y) k y w m in cc
