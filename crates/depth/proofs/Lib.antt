@@ -23,3 +23,4 @@ pub mod HoleTest
 pub mod ReadPart
 pub mod Beyond
 pub mod Decision
+pub mod Examples
