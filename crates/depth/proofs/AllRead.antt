@@ -10,7 +10,8 @@ use Rattle.rounding.specs.Sum.{amount, share, scale, add}
 use Rattle.depth.specs.Columns.{topExponent, Like}
 use Rattle.depth.specs.Read.{unread}
 use Rattle.depth.specs.Depth.{plus, result, Fixed}
-use Rattle.depth.proofs.Columns.{read-of, top-first, top-second}
+use Rattle.depth.proofs.Columns.{read-of}
+use Rattle.depth.proofs.Place.{top-first, top-second}
 use Rattle.depth.proofs.Amounts.{amount-nil, amount-is, low-like, like-self}
 use Rattle.depth.proofs.EndsDecide.{add-is}
 

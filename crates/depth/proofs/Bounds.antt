@@ -11,13 +11,11 @@ use Rattle.number.specs.Limits.{mostPrecision}
 use Rattle.number.specs.Operand.{Operand, lastWeight, WellFormed}
 use Rattle.number.proofs.Digits.{precision-two}
 use Rattle.rounding.specs.Mode.{Mode}
-use Rattle.rounding.specs.Answer.{answer}
-use Rattle.rounding.specs.Sum.{share, scale, zeroSign, sumAt, add}
 use Rattle.rounding.proofs.Order.{le-or-lt}
 use Rattle.depth.specs.Columns.{topExponent, Like}
 use Rattle.depth.specs.Depth.{plus, result, Fixed}
 use Rattle.depth.specs.Bound.{columnsFor, boundOf, bound, deepest}
-use Rattle.depth.proofs.Least.{fixed-more}
+use Rattle.depth.proofs.Place.{fixed-swap}
 use Rattle.depth.proofs.AllRead.{all-read, read-fixed}
 use Rattle.depth.proofs.Far.{far-fixed}
 
@@ -72,48 +70,6 @@ boundOf-most p m n d P M N = go (leb (64 * k) d) refl
         less : (c t : ℕ) → c ≤ t → d < 64 * c → m ≤ mostPrecision → n ≤ mostPrecision → max m (d + n) ≤ 64 * t - 1 + mostPrecision
         less c t h l a b = omega arith
 
--- ---- the two operands may change places
-
-module _ (x y : Operand) (r : x .isZero ≡ false) (q : y .isZero ≡ false) where
-  t-is : topExponent x y ≡ max (x .exponent) (y .exponent)
-  unfolding topExponent
-  t-is = rw (r, q)
-
-  s-is : scale x y ≡ min (lastWeight x) (lastWeight y)
-  unfolding scale
-  s-is = rw (r, q)
-
-zero-sign : (o : Mode) (a b : Bool) → zeroSign o a b ≡ zeroSign o b a
-unfolding zeroSign
-zero-sign o true true = refl
-zero-sign o true false = refl
-zero-sign o false true = refl
-zero-sign o false false = refl
-
-sum-swap : (o : Mode) (p s : ℕ) (x y : Operand) → sumAt o p s x y ≡ sumAt o p s y x
-unfolding sumAt
-sum-swap o p s x y =
-    let a = zero-sign o (x .negative) (y .negative) in
-    let b = add-comm (share false s x) (share false s y) in
-    let c = add-comm (share true s x) (share true s y) in
-    cc
-
-add-swap : (o : Mode) (p : ℕ) (x y : Operand) → x .isZero ≡ false → y .isZero ≡ false → add o p x y ≡ add o p y x
-unfolding add
-add-swap o p x y r q = ap (λ (v : ℕ). sumAt o p v x y) (s-is x y r q ∙ flip (lastWeight x) (lastWeight y) ∙ sym (s-is y x q r)) ∙ sum-swap o p (scale y x) x y
-  where
-    flip : (a b : ℕ) → min a b ≡ min b a
-    flip a b = omega arith
-
-fixed-swap : (o : Mode) (p : ℕ) (x y : Operand) (k : ℕ) → x .isZero ≡ false → y .isZero ≡ false → Fixed plus o p y x k → Fixed plus o p x y k
-unfolding Fixed result
-fixed-swap o p x y k r q f z w l m =
-    let e : topExponent x y ≡ topExponent y x = t-is x y r q ∙ flip (x .exponent) (y .exponent) ∙ sym (t-is y x q r) in
-    add-swap o p z w (l .isZero ∙ r) (m .isZero ∙ q) ∙ f w z (subst (λ (t : ℕ). Like t k y w) e m) (subst (λ (t : ℕ). Like t k x z) e l) ∙ add-swap o p y x q r
-  where
-    flip : (a b : ℕ) → max a b ≡ max b a
-    flip a b = omega arith
-
 -- ---- x has the larger exponent
 
 module _ (o : Mode) (p : ℕ) (P : 0 < p) (x y : Operand) (g : WellFormed x) (h : WellFormed y) (r : x .isZero ≡ false) (q : y .isZero ≡ false) (larger : y .exponent ≤ x .exponent) where
@@ -127,7 +83,8 @@ module _ (o : Mode) (p : ℕ) (P : 0 < p) (x y : Operand) (g : WellFormed x) (h 
   d = x .exponent - y .exponent
 
   top : topExponent x y ≡ x .exponent
-  top = t-is x y r q ∙ go (x .exponent) (y .exponent) larger
+  unfolding topExponent
+  top = rw (r, q) (go (x .exponent) (y .exponent) larger)
     where
       go : (a b : ℕ) → b ≤ a → max a b ≡ a
       go a b h = omega arith
@@ -223,7 +180,7 @@ module _ (p : ℕ) (x y : Operand) (g : WellFormed x) (h : WellFormed y) where
       both : x .isZero ≡ false → y .isZero ≡ false → (c : Bool) → leb (y .exponent) (x .exponent) ≡ c
           → Fixed plus o p x y (cond c (boundOf p (x .precision) (y .precision) (x .exponent - y .exponent)) (boundOf p (y .precision) (x .precision) (y .exponent - x .exponent)))
       both r q true e = larger-fixed o p P x y g h r q (leb-true _ _ e)
-      both r q false e = fixed-swap o p x y (boundOf p (y .precision) (x .precision) (y .exponent - x .exponent)) r q (larger-fixed o p P y x h g q r (le-of-lt (leb-false _ _ e)))
+      both r q false e = fixed-swap o p x y (boundOf p (y .precision) (x .precision) (y .exponent - x .exponent)) r (larger-fixed o p P y x h g q r (le-of-lt (leb-false _ _ e)))
 
       go : (a b : Bool) → x .isZero ≡ a → y .isZero ≡ b
           → Fixed plus o p x y (cond a (columnsFor (y .precision)) (cond b (columnsFor (x .precision)) (cond (leb (y .exponent) (x .exponent)) (boundOf p (x .precision) (y .precision) (x .exponent - y .exponent)) (boundOf p (y .precision) (x .precision) (y .exponent - x .exponent)))))

@@ -58,32 +58,12 @@ zero-bit : (x : Operand) (w : ℕ) → x .isZero ≡ true → bitAt x w ≡ 0
 unfolding bitAt
 zero-bit x w e = simp e
 
--- ---- where the operands of a pair stand
-
 -- every digit of a regular operand has a weight of 2 to a natural number
 pub digits-counted : (x : Operand) → WellFormed x → x .isZero ≡ false → x .precision ≤ x .exponent
 digits-counted x g r = go (g .most) (g .regular r .least)
   where
     go : x .precision ≤ mostPrecision → leastExponent ≤ x .exponent → x .precision ≤ x .exponent
     go h k = omega (arith, weights-counted)
-
-pub top-first : (x y : Operand) → x .isZero ≡ false → x .exponent ≤ topExponent x y
-unfolding topExponent
-top-first x y r = go (x .isZero) (y .isZero) r
-  where
-    go : (a b : Bool) → a ≡ false → x .exponent ≤ cond a (y .exponent) (cond b (x .exponent) (max (x .exponent) (y .exponent)))
-    go true b e = absurd (true≢false e)
-    go false true e = le-refl (x .exponent)
-    go false false e = omega arith
-
-pub top-second : (x y : Operand) → y .isZero ≡ false → y .exponent ≤ topExponent x y
-unfolding topExponent
-top-second x y r = go (x .isZero) (y .isZero) r
-  where
-    go : (a b : Bool) → b ≡ false → y .exponent ≤ cond a (y .exponent) (cond b (x .exponent) (max (x .exponent) (y .exponent)))
-    go true b e = le-refl (y .exponent)
-    go false true e = absurd (true≢false e)
-    go false false e = omega arith
 
 -- ---- the two forms of agreement: p digits, the first of weight 2 ^ (e - 1); bit i of column j is the n-th, n = 64 j + i
 

@@ -1,7 +1,7 @@
 -- The decision on what is read of the operands holds exactly when k columns fix the answer.
 use mathlib.Core.Path.{_≡_, refl, sym, ap, _∙_, subst}
 use mathlib.Core.Logic.{_⊎_, inl, inr}
-use mathlib.Core.Bool.{Bool, true, false, not, cond, _&&_, _||_}
+use mathlib.Core.Bool.{Bool, true, false, not, cond, _&&_, _||_, true≢false}
 use Prim.Native.Nat.{ℕ, zero, suc, _+_, _-_, _*_, _/_, _%_, _^_, _≤_, _<_, min, max, compare}
 use native.Mathlib.Nat.{le-refl, le-trans, le-of-eq, add-comm, zero-mul}
 use native.Mathlib.Omega.{arith}
@@ -14,67 +14,18 @@ use Rattle.rounding.specs.Answer.{answer}
 use Rattle.depth.specs.Columns.{topExponent, Like}
 use Rattle.depth.specs.Read.{unread}
 use Rattle.depth.specs.Depth.{plus, Fixed, Open, Deciding}
-use Rattle.depth.proofs.Columns.{read-of, top-first, top-second}
+use Rattle.depth.proofs.Columns.{read-of}
+use Rattle.depth.proofs.Place.{top-swap, top-first, top-second, scale-first, scale-second, other-top}
 use Rattle.depth.proofs.Reach.{end}
 use Rattle.depth.proofs.Amounts.{low-like}
 use Rattle.depth.proofs.EndsDecide.{Alike, own-first, own-second, other-first, other-second, fixed-if, fixed-or}
 use Rattle.depth.proofs.Least.{not-both}
-use Rattle.depth.specs.Decide.{reaches?, readDigits, readPart, leftOver, beyond, seenPair, decideAt}
+use Rattle.depth.proofs.AllRead.{read-fixed}
+use Rattle.depth.specs.Decide.{sameSigns, unlikePair, reaches?, readDigits, readPart, leftOver, beyond, seenPair, decideAt}
 use Rattle.depth.proofs.Rows.{Seen, Held}
 use Rattle.depth.proofs.Pair.{Decides, Ends, Pair, seen-pair}
 use Rattle.depth.proofs.ReadPart.{seen-is, seen-held, seen-pos, nil-seen, nil-held}
 use Rattle.depth.proofs.Beyond.{digits-are, read-is, beyond-decides}
-
--- ---- the exponents and weights of a regular operand of the pair
-
-first-least : (a b : Bool) (m n : ℕ) → a ≡ false → cond a n (cond b m (min m n)) ≤ m
-first-least true b m n e = absurd (let z : _≡_ {A = ℕ} 0 1 = cc in omega arith)
-first-least false true m n e = le-refl m
-first-least false false m n e = omega arith
-
-second-least : (a b : Bool) (m n : ℕ) → b ≡ false → cond a n (cond b m (min m n)) ≤ n
-second-least true b m n e = le-refl n
-second-least false true m n e = absurd (let z : _≡_ {A = ℕ} 0 1 = cc in omega arith)
-second-least false false m n e = omega arith
-
-scale-x : (x y : Operand) → x .isZero ≡ false → scale x y ≤ lastWeight x
-unfolding scale
-scale-x x y r = first-least (x .isZero) (y .isZero) (lastWeight x) (lastWeight y) r
-
-scale-y : (x y : Operand) → y .isZero ≡ false → scale x y ≤ lastWeight y
-unfolding scale
-scale-y x y r = second-least (x .isZero) (y .isZero) (lastWeight x) (lastWeight y) r
-
--- where nothing of one is read, the other is regular and stands at the top
-other-top : (x y : Operand) (k : ℕ) → 1 ≤ k → y .isZero ≡ false → 64 * k ≤ topExponent x y - y .exponent → (x .isZero ≡ false) × (topExponent x y ≡ x .exponent)
-unfolding topExponent
-other-top x y k K q u = go (x .isZero) refl u
-  where
-    flat : (e : ℕ) → 64 * k ≤ e - e → ⊥
-    flat e h = omega arith
-
-    tall : (a b : ℕ) → 64 * k ≤ max a b - b → max a b ≡ a
-    tall a b h = omega arith
-
-    go : (b : Bool) → x .isZero ≡ b → 64 * k ≤ cond (x .isZero) (y .exponent) (cond (y .isZero) (x .exponent) (max (x .exponent) (y .exponent))) - y .exponent → (x .isZero ≡ false) × (cond (x .isZero) (y .exponent) (cond (y .isZero) (x .exponent) (max (x .exponent) (y .exponent))) ≡ x .exponent)
-    go true e h = absurd (flat (y .exponent) (rw e at h))
-    go false e h = (e, rw (e, q) (tall (x .exponent) (y .exponent) (rw (e, q) at h)))
-
-other-top' : (x y : Operand) (k : ℕ) → 1 ≤ k → x .isZero ≡ false → 64 * k ≤ topExponent x y - x .exponent → (y .isZero ≡ false) × (topExponent x y ≡ y .exponent)
-unfolding topExponent
-other-top' x y k K r u = go (y .isZero) refl (rw r at u)
-  where
-    flat : (e : ℕ) → 64 * k ≤ e - e → ⊥
-    flat e h = omega arith
-
-    tall : (a b : ℕ) → 64 * k ≤ max a b - a → max a b ≡ b
-    tall a b h = omega arith
-
-    go : (b : Bool) → y .isZero ≡ b → 64 * k ≤ cond (y .isZero) (x .exponent) (max (x .exponent) (y .exponent)) - x .exponent → (y .isZero ≡ false) × (cond (x .isZero) (y .exponent) (cond (y .isZero) (x .exponent) (max (x .exponent) (y .exponent))) ≡ y .exponent)
-    go true e h = absurd (flat (x .exponent) (rw e at h))
-    go false e h = (e, rw (r, e) (tall (x .exponent) (y .exponent) (rw e at h)))
-
--- ---- an operand that reaches into what is read
 
 reach-cases : (t k : ℕ) (z : Operand) → reaches? t k z ≡ true → (z .isZero ≡ true) ⊎ ((z .isZero ≡ false) × (t - z .exponent < 64 * k))
 unfolding reaches?
@@ -129,6 +80,30 @@ read-in t k s z g top sc e = go (reach-cases t k z e)
         let r = f .0 in
         by (read-is t k s z r) (left-is t k z r) (seen-is t k s z g r (top r) (sc r) (f .1)) (seen-held t k s z g r (top r) (sc r) (f .1)) (λ h. seen-pos t k s z g r (top r) (sc r) (f .1))
 
+-- ---- two zeros, of which there is nothing to read
+
+no-digits : (o : Mode) (p e : ℕ) (a b : Bool) → seenPair o p e a b 0 0 0 0 ≡ true
+unfolding seenPair sameSigns unlikePair
+no-digits o p e true true = refl
+no-digits o p e false false = refl
+no-digits o p e true false = refl
+no-digits o p e false true = refl
+
+reaches-nil : (t k : ℕ) (z : Operand) → z .isZero ≡ true → reaches? t k z ≡ true
+unfolding reaches?
+reaches-nil t k z e = rw e
+
+two-zeros : (o : Mode) (p : ℕ) (x y : Operand) (k : ℕ) → x .isZero ≡ true → y .isZero ≡ true → decideAt o p x y k ≡ true
+unfolding decideAt
+two-zeros o p x y k e f =
+    let t = topExponent x y in
+    let s = scale x y in
+    let a = read-nil t k s x e in let b = left-nil t k x e in
+    let c = read-nil t k s y f in let d = left-nil t k y f in
+    let n = no-digits o p (t - 64 * k - s + s) (x .negative) (y .negative) in
+    let i = reaches-nil t k x e in let j = reaches-nil t k y f in
+    cc
+
 -- ---- the ends of the pair, by amounts
 
 swap : (neg : Bool) (o : Mode) (p s : ℕ) (P : 0 < p) (c : Bool) (a b : Bool) (xl xh yl yh : ℕ) → Decides c (Pair neg o p s P b a yl yh xl xh) → Decides c (Pair neg o p s P a b xl xh yl yh)
@@ -137,7 +112,7 @@ swap neg o p s P c true true xl xh yl yh d = rw (add-comm xl yl, add-comm xh yh)
 swap neg o p s P c false true xl xh yl yh d = d
 swap neg o p s P c true false xl xh yl yh d = d
 
-module _ (o : Mode) (p : ℕ) (P : 0 < p) (x y : Operand) (g : WellFormed x) (h : WellFormed y) (some : (x .isZero && y .isZero) ≡ false) (k : ℕ) (K : 1 ≤ k) where
+module _ (o : Mode) (p : ℕ) (P : 0 < p) (x y : Operand) (g : WellFormed x) (h : WellFormed y) (k : ℕ) (K : 1 ≤ k) where
   abbrev t : ℕ
   t = topExponent x y
 
@@ -167,17 +142,17 @@ module _ (o : Mode) (p : ℕ) (P : 0 < p) (x y : Operand) (g : WellFormed x) (h 
   Amounts-same = Pair neg o p s P (x .negative) (y .negative) xl xh yl yh
 
   -- both reach into what is read
-  one-regular : (a b : Bool) → x .isZero ≡ a → y .isZero ≡ b → (x .isZero ≡ false) ⊎ (y .isZero ≡ false)
-  one-regular false b e f = inl e
-  one-regular true false e f = inr f
-  one-regular true true e f = absurd (let z : _≡_ {A = ℕ} 0 1 = cc in omega arith)
+  one-regular : (x .isZero && y .isZero) ≡ false → (a b : Bool) → x .isZero ≡ a → y .isZero ≡ b → (x .isZero ≡ false) ⊎ (y .isZero ≡ false)
+  one-regular some false b e f = inl e
+  one-regular some true false e f = inr f
+  one-regular some true true e f = absurd (let z : _≡_ {A = ℕ} 0 1 = cc in omega arith)
 
-  both : reaches? t k x ≡ true → reaches? t k y ≡ true → Decides (seenPair o p (t - 64 * k - s + s) (x .negative) (y .negative) (readPart t k s x) (leftOver t k x) (readPart t k s y) (leftOver t k y)) Amounts-same
-  both e f =
-      let a = read-in t k s x g (top-first x y) (scale-x x y) e in
-      let b = read-in t k s y h (top-second x y) (scale-y x y) f in
+  both : (x .isZero && y .isZero) ≡ false → reaches? t k x ≡ true → reaches? t k y ≡ true → Decides (seenPair o p (t - 64 * k - s + s) (x .negative) (y .negative) (readPart t k s x) (leftOver t k x) (readPart t k s y) (leftOver t k y)) Amounts-same
+  both some e f =
+      let a = read-in t k s x g (top-first x y) (scale-first x y) e in
+      let b = read-in t k s y h (top-second x y) (scale-second x y) f in
       seen-pair neg o p s P (x .negative) (y .negative) (t - 64 * k - s) (readPart t k s x) (leftOver t k x) xl xh (readPart t k s y) (leftOver t k y) yl yh (a .seen) (b .seen) (a .held) (b .held)
-      (elim (one-regular (x .isZero) (y .isZero) refl refl) [ inl r ↦ left (readPart t k s x) (readPart t k s y) (a .pos r) | inr q ↦ right (readPart t k s x) (readPart t k s y) (b .pos q) ])
+      (elim (one-regular some (x .isZero) (y .isZero) refl refl) [ inl r ↦ left (readPart t k s x) (readPart t k s y) (a .pos r) | inr q ↦ right (readPart t k s x) (readPart t k s y) (b .pos q) ])
     where
       left : (m n : ℕ) → 0 < m → 0 < m + n
       left m n h = omega arith
@@ -189,17 +164,18 @@ module _ (o : Mode) (p : ℕ) (P : 0 < p) (x y : Operand) (g : WellFormed x) (h 
   x-reaches f =
       let u = not-reached t k y f in
       let v = other-top x y k K (u .0) (u .1) in
-      beyond-decides neg o p P x y g h (v .0) (u .0) k t s K (v .1) (scale-x x y (v .0)) (scale-y x y (u .0)) (u .1)
+      beyond-decides neg o p P x y g h (v .0) (u .0) k t s K (v .1) (scale-first x y (v .0)) (scale-second x y (u .0)) (u .1)
 
   y-reaches : reaches? t k x ≡ false → Decides (beyond o p y x k t s) Amounts-same
   y-reaches f =
       let u = not-reached t k x f in
-      let v = other-top' x y k K (u .0) (u .1) in
-      swap neg o p s P (beyond o p y x k t s) (x .negative) (y .negative) xl xh yl yh (beyond-decides neg o p P y x h g (v .0) (u .0) k t s K (v .1) (scale-y x y (v .0)) (scale-x x y (u .0)) (u .1))
+      let e = top-swap x y (u .0) in
+      let v = other-top y x k K (u .0) (rw e at (u .1)) in
+      swap neg o p s P (beyond o p y x k t s) (x .negative) (y .negative) xl xh yl yh (beyond-decides neg o p P y x h g (v .0) (u .0) k t s K (e ∙ v .1) (scale-second x y (v .0)) (scale-first x y (u .0)) (u .1))
 
-  amounts-decided : Decides (decideAt o p x y k) Amounts-same
+  amounts-decided : (x .isZero && y .isZero) ≡ false → Decides (decideAt o p x y k) Amounts-same
   unfolding decideAt
-  amounts-decided = arm (reaches? t k x) (λ e. arm (reaches? t k y) (both e) x-reaches) y-reaches
+  amounts-decided some = arm (reaches? t k x) (λ e. arm (reaches? t k y) (both some e) x-reaches) y-reaches
     where
       arm : (b : Bool) {c d : Bool} {B : Type 0} → (b ≡ true → Decides c B) → (b ≡ false → Decides d B) → Decides (cond b c d) B
       arm true m n = m refl
@@ -219,11 +195,11 @@ module _ (o : Mode) (p : ℕ) (P : 0 < p) (x y : Operand) (g : WellFormed x) (h 
   y-other b c e = other-second x y g h k K b c e
 
   -- above and below zero, at the least end and at the greatest
-  record Shown (a b c d : ℕ) : Type 0 where
-    up-low : share false s (end t k x (x .negative)) + share false s (end t k y (y .negative)) ≡ a
-    down-low : share true s (end t k x (x .negative)) + share true s (end t k y (y .negative)) ≡ b
-    up-high : share false s (end t k x (not (x .negative))) + share false s (end t k y (not (y .negative))) ≡ c
-    down-high : share true s (end t k x (not (x .negative))) + share true s (end t k y (not (y .negative))) ≡ d
+  pub record Shown (a b c d : ℕ) : Type 0 where
+    pub up-low : share false s (end t k x (x .negative)) + share false s (end t k y (y .negative)) ≡ a
+    pub down-low : share true s (end t k x (x .negative)) + share true s (end t k y (y .negative)) ≡ b
+    pub up-high : share false s (end t k x (not (x .negative))) + share false s (end t k y (not (y .negative))) ≡ c
+    pub down-high : share true s (end t k x (not (x .negative))) + share true s (end t k y (not (y .negative))) ≡ d
 
   to-same : (a b c d : ℕ) → Shown a b c d → Ends neg o p s a b c d → Ends-same
   to-same a b c d v e = let i = v .up-low in let j = v .down-low in let m = v .up-high in let n = v .down-high in let q = e .sign in let r = e .answers in record { sign = cc; answers = cc }
@@ -243,64 +219,85 @@ module _ (o : Mode) (p : ℕ) (P : 0 < p) (x y : Operand) (g : WellFormed x) (h 
   flip : {a b : Bool} → a ≡ b → not a ≡ not b
   flip e = ap not e
 
-  shown : (a b : Bool) → x .negative ≡ a → y .negative ≡ b → (Pair neg o p s P a b xl xh yl yh → Ends-same) × (Ends-same → Pair neg o p s P a b xl xh yl yh)
-  shown false false e f =
-      let v : Shown (xl + yl) 0 (xh + yh) 0 = record {
-        up-low = both-sum (x-own false (x .negative) false e e) (y-own false (y .negative) false f f);
-        down-low = plus-zero (x-other true (x .negative) e) (y-other true (y .negative) f);
-        up-high = both-sum (x-own false (not (x .negative)) true e (flip e)) (y-own false (not (y .negative)) true f (flip f));
-        down-high = plus-zero (x-other true (not (x .negative)) e) (y-other true (not (y .negative)) f);
-      } in
-      (to-same (xl + yl) 0 (xh + yh) 0 v, from-same (xl + yl) 0 (xh + yh) 0 v)
-  shown true true e f =
-      let v : Shown 0 (xh + yh) 0 (xl + yl) = record {
-        up-low = plus-zero (x-other false (x .negative) e) (y-other false (y .negative) f);
-        down-low = both-sum (x-own true (x .negative) true e e) (y-own true (y .negative) true f f);
-        up-high = plus-zero (x-other false (not (x .negative)) e) (y-other false (not (y .negative)) f);
-        down-high = both-sum (x-own true (not (x .negative)) false e (flip e)) (y-own true (not (y .negative)) false f (flip f));
-      } in
-      (to-same 0 (xh + yh) 0 (xl + yl) v, from-same 0 (xh + yh) 0 (xl + yl) v)
-  shown false true e f =
-      let v : Shown xl yh xh yl = record {
-        up-low = plus-zero (x-own false (x .negative) false e e) (y-other false (y .negative) f);
-        down-low = zero-plus (x-other true (x .negative) e) (y-own true (y .negative) true f f);
-        up-high = plus-zero (x-own false (not (x .negative)) true e (flip e)) (y-other false (not (y .negative)) f);
-        down-high = zero-plus (x-other true (not (x .negative)) e) (y-own true (not (y .negative)) false f (flip f));
-      } in
-      (to-same xl yh xh yl v, from-same xl yh xh yl v)
-  shown true false e f =
-      let v : Shown yl xh yh xl = record {
-        up-low = zero-plus (x-other false (x .negative) e) (y-own false (y .negative) false f f);
-        down-low = plus-zero (x-own true (x .negative) true e e) (y-other true (y .negative) f);
-        up-high = zero-plus (x-other false (not (x .negative)) e) (y-own false (not (y .negative)) true f (flip f));
-        down-high = plus-zero (x-own true (not (x .negative)) false e (flip e)) (y-other true (not (y .negative)) f);
-      } in
-      (to-same yl xh yh xl v, from-same yl xh yh xl v)
+  -- by the signs a of x and b of y
+  abbrev pub ShownBy : Bool → Bool → Type 0
+  ShownBy false false = Shown (xl + yl) 0 (xh + yh) 0
+  ShownBy true true = Shown 0 (xh + yh) 0 (xl + yl)
+  ShownBy false true = Shown xl yh xh yl
+  ShownBy true false = Shown yl xh yh xl
+
+  pub shown : (a b : Bool) → x .negative ≡ a → y .negative ≡ b → ShownBy a b
+  shown false false e f = record {
+    up-low = both-sum (x-own false (x .negative) false e e) (y-own false (y .negative) false f f);
+    down-low = plus-zero (x-other true (x .negative) e) (y-other true (y .negative) f);
+    up-high = both-sum (x-own false (not (x .negative)) true e (flip e)) (y-own false (not (y .negative)) true f (flip f));
+    down-high = plus-zero (x-other true (not (x .negative)) e) (y-other true (not (y .negative)) f);
+  }
+  shown true true e f = record {
+    up-low = plus-zero (x-other false (x .negative) e) (y-other false (y .negative) f);
+    down-low = both-sum (x-own true (x .negative) true e e) (y-own true (y .negative) true f f);
+    up-high = plus-zero (x-other false (not (x .negative)) e) (y-other false (not (y .negative)) f);
+    down-high = both-sum (x-own true (not (x .negative)) false e (flip e)) (y-own true (not (y .negative)) false f (flip f));
+  }
+  shown false true e f = record {
+    up-low = plus-zero (x-own false (x .negative) false e e) (y-other false (y .negative) f);
+    down-low = zero-plus (x-other true (x .negative) e) (y-own true (y .negative) true f f);
+    up-high = plus-zero (x-own false (not (x .negative)) true e (flip e)) (y-other false (not (y .negative)) f);
+    down-high = zero-plus (x-other true (not (x .negative)) e) (y-own true (not (y .negative)) false f (flip f));
+  }
+  shown true false e f = record {
+    up-low = zero-plus (x-other false (x .negative) e) (y-own false (y .negative) false f f);
+    down-low = plus-zero (x-own true (x .negative) true e e) (y-other true (y .negative) f);
+    up-high = zero-plus (x-other false (not (x .negative)) e) (y-own false (not (y .negative)) true f (flip f));
+    down-high = plus-zero (x-own true (not (x .negative)) false e (flip e)) (y-other true (not (y .negative)) f);
+  }
+
+  same-by : (a b : Bool) → ShownBy a b → Pair neg o p s P a b xl xh yl yh → Ends-same
+  same-by false false v = to-same (xl + yl) 0 (xh + yh) 0 v
+  same-by true true v = to-same 0 (xh + yh) 0 (xl + yl) v
+  same-by false true v = to-same xl yh xh yl v
+  same-by true false v = to-same yl xh yh xl v
+
+  pair-by : (a b : Bool) → ShownBy a b → Ends-same → Pair neg o p s P a b xl xh yl yh
+  pair-by false false v = from-same (xl + yl) 0 (xh + yh) 0 v
+  pair-by true true v = from-same 0 (xh + yh) 0 (xl + yl) v
+  pair-by false true v = from-same xl yh xh yl v
+  pair-by true false v = from-same yl xh yh xl v
+
+  -- what is fixed has one sign and one answer at the ends
+  pub fixed-amounts : Fixed plus o p x y k → Amounts-same
+  fixed-amounts f = pair-by (x .negative) (y .negative) (shown (x .negative) (y .negative) refl refl) (same-of (fixed-or o p x y P g h k K))
+    where
+      same-of : Ends-same ⊎ Open plus o p x y k → Ends-same
+      same-of (inl e) = e
+      same-of (inr u) = absurd (not-both plus o p x y k f u)
 
   -- the decision, against the definition of depth
   pub decides-fixed : Decides (decideAt o p x y k) (Fixed plus o p x y k)
-  decides-fixed =
-      let v = shown (x .negative) (y .negative) refl refl in
-      record {
-        sound = λ e. fixed-if o p x y P g h k K (v .0 (amounts-decided .sound e));
-        complete = λ f. amounts-decided .complete (v .1 (same-of f (fixed-or o p x y P g h k K)));
-      }
+  decides-fixed = go (x .isZero) (y .isZero) refl refl
     where
-      same-of : Fixed plus o p x y k → Ends-same ⊎ Open plus o p x y k → Ends-same
-      same-of f (inl e) = e
-      same-of f (inr u) = absurd (not-both plus o p x y k f u)
+      regular : (x .isZero && y .isZero) ≡ false → Decides (decideAt o p x y k) (Fixed plus o p x y k)
+      regular some = record {
+        sound = λ e. fixed-if o p x y P g h k K (same-by (x .negative) (y .negative) (shown (x .negative) (y .negative) refl refl) (amounts-decided some .sound e));
+        complete = λ f. amounts-decided some .complete (fixed-amounts f);
+      }
+
+      go : (a b : Bool) → x .isZero ≡ a → y .isZero ≡ b → Decides (decideAt o p x y k) (Fixed plus o p x y k)
+      go false b e f = regular (cc)
+      go true false e f = regular (cc)
+      go true true e f = record { sound = λ d. read-fixed o p x y g h k (λ d. absurd (true≢false (sym e ∙ d))) (λ d. absurd (true≢false (sym f ∙ d))); complete = λ d. two-zeros o p x y k e f }
 
 -- ---- two looks give the depth
 
-pub depth-decided : (o : Mode) (p : ℕ) (P : 0 < p) (x y : Operand) → WellFormed x → WellFormed y → (x .isZero && y .isZero) ≡ false → (k : ℕ) → 1 ≤ k → decideAt o p x y k ≡ true → (1 < k → decideAt o p x y (k - 1) ≡ false) → Deciding plus o p x y k
-depth-decided o p P x y g h some k K e f = record { one = K; fixed = decides-fixed o p P x y g h some k K .sound e; fewer = λ u. no-less (k - 1) (less k u) (f u) }
+pub depth-decided : (o : Mode) (p : ℕ) (P : 0 < p) (x y : Operand) → WellFormed x → WellFormed y → (k : ℕ) → 1 ≤ k → decideAt o p x y k ≡ true → (1 < k → decideAt o p x y (k - 1) ≡ false) → Deciding plus o p x y k
+depth-decided o p P x y g h k K e f = record { one = K; fixed = decides-fixed o p P x y g h k K .sound e; fewer = λ u. no-less (k - 1) (less k u) (f u) }
   where
     less : (k : ℕ) → 1 < k → 1 ≤ k - 1
     less k u = omega arith
 
     no-less : (j : ℕ) → 1 ≤ j → decideAt o p x y j ≡ false → Open plus o p x y j
     no-less j B e = elim (fixed-or o p x y P g h j B) [
-      | inl c ↦ absurd (let d = decides-fixed o p P x y g h some j B .complete (fixed-if o p x y P g h j B c) in let z : _≡_ {A = ℕ} 0 1 = cc in omega arith)
+      | inl c ↦ absurd (let d = decides-fixed o p P x y g h j B .complete (fixed-if o p x y P g h j B c) in let z : _≡_ {A = ℕ} 0 1 = cc in omega arith)
       | inr u ↦ u
     ]
 

@@ -15,7 +15,7 @@ use Rattle.rounding.proofs.Order.{le-or-lt, Cmp, cmp}
 use Rattle.rounding.proofs.Ends.{all-between, plus as positive, minus as negative, nought, regular}
 use Rattle.depth.specs.Columns.{topExponent, Like}
 use Rattle.depth.specs.Depth.{plus, result, Fixed, Open}
-use Rattle.depth.proofs.Columns.{top-first, top-second}
+use Rattle.depth.proofs.Place.{top-first, top-second, scale-first, scale-second}
 use Rattle.depth.proofs.Reach.{end}
 use Rattle.depth.proofs.Amounts.{like-self, like-end, amount-end, amount-nil, shares}
 use Rattle.depth.proofs.Meet.{meet}
@@ -99,25 +99,15 @@ module _ (x y : Operand) (g : WellFormed x) (h : WellFormed y) (k : ℕ) (K : 1 
     unfolding topExponent
     t-is = rw (r, q)
 
-    s-is : s ≡ min (lastWeight x) (lastWeight y)
-    unfolding scale
-    s-is = rw (r, q)
-
     both-touch : amount s (end t k x false) < amount s (end t k y true) → amount s (end t k y false) < amount s (end t k x true) → amount s (end t k x false) ≡ amount s (end t k y false)
     both-touch u v =
         let a = top-first x y r in
         let b = top-second x y q in
         amount-end t k s x g a false r
-        ∙ meet t k s x y g h r q a b (rw s-is (left (lastWeight x) (lastWeight y))) (rw s-is (right (lastWeight x) (lastWeight y))) top K
+        ∙ meet t k s x y g h r q a b (scale-first x y r) (scale-second x y q) top K
         (rw (← amount-end t k s x g a false r, ← amount-end t k s y h b true q) u) (rw (← amount-end t k s y h b false q, ← amount-end t k s x g a true r) v)
         ∙ sym (amount-end t k s y h b false q)
       where
-        left : (a b : ℕ) → min a b ≤ a
-        left a b = omega arith
-
-        right : (a b : ℕ) → min a b ≤ b
-        right a b = omega arith
-
         top : (t ≡ x .exponent) ⊎ (t ≡ y .exponent)
         top = elim (le-or-lt (x .exponent) (y .exponent)) [ inl l ↦ inr (t-is ∙ omega arith) | inr l ↦ inl (t-is ∙ omega arith) ]
 

@@ -144,17 +144,17 @@ only-one h = absurd (omega arith)
 
 -- "With m = 128 the depth is 2, for a carry may still come; with m = 64 it is 1, for one number alone carries nothing."
 pub example-short : Deciding plus nearest 2 short next 1
-example-short = depth-decided nearest 2 (lit< tt) short next short-good next-good refl 1 (lit≤ tt) (table .0) only-one
+example-short = depth-decided nearest 2 (lit< tt) short next short-good next-good 1 (lit≤ tt) (table .0) only-one
 
 pub example-long : Deciding plus nearest 2 long next 2
-example-long = depth-decided nearest 2 (lit< tt) long next long-good next-good refl 2 (lit≤ tt) (table .2) (λ u. table .1)
+example-long = depth-decided nearest 2 (lit< tt) long next long-good next-good 2 (lit≤ tt) (table .2) (λ u. table .1)
 
 -- "10 | 0.10×2^M + 0.10×2^M, M = 2^30 - 1 | refused 6, depth 1", under every mode and target
 most-good : WellFormed (half top)
 most-good = half-good top (unfold leastExponent mostExponent bias in lit≤ tt) (unfold mostExponent bias in lit≤ tt)
 
 pub ten-depth : (o : Mode) (p : ℕ) → 0 < p → Deciding plus o p (half top) (half top) 1
-ten-depth o p P = depth-decided o p P (half top) (half top) most-good most-good refl 1 (lit≤ tt) read only-one
+ten-depth o p P = depth-decided o p P (half top) (half top) most-good most-good 1 (lit≤ tt) read only-one
   where
     read : decideAt o p (half top) (half top) 1 ≡ true
     read = unfold decideAt leftOver reaches? seenPair sameSigns topExponent unread mostExponent bias in refl
@@ -177,7 +177,7 @@ ten-answer o p P = whole ∙ positive false o p (top - 2) P 4 0 (lit< tt) ∙ re
 
 -- "13 | 0.10 + 0.10×2^-1000000, 62, up | .. depth 1, limbs 1 and 0"
 pub thirteen-depth : Deciding plus upward 62 (half mid) (half (mid - 1000000)) 1
-thirteen-depth = depth-decided upward 62 (lit< tt) (half mid) (half (mid - 1000000)) (half-good mid (unfold leastExponent bias in lit≤ tt) (unfold mostExponent bias in lit≤ tt)) (half-good (mid - 1000000) (unfold leastExponent bias in lit≤ tt) (unfold mostExponent bias in lit≤ tt)) refl 1 (lit≤ tt) (table .11) only-one
+thirteen-depth = depth-decided upward 62 (lit< tt) (half mid) (half (mid - 1000000)) (half-good mid (unfold leastExponent bias in lit≤ tt) (unfold mostExponent bias in lit≤ tt)) (half-good (mid - 1000000) (unfold leastExponent bias in lit≤ tt) (unfold mostExponent bias in lit≤ tt)) 1 (lit≤ tt) (table .11) only-one
 
 pub thirteen-limbs : (limbsUsed mid 1 (half mid) ≡ 1) × (limbsUsed mid 1 (half (mid - 1000000)) ≡ 0)
 unfolding limbsUsed limbsFor bias

@@ -15,7 +15,8 @@ use Rattle.depth.specs.Read.{unread}
 use Rattle.depth.specs.Depth.{plus, result, Fixed}
 use Rattle.rounding.proofs.Selection.{multiple}
 use Rattle.number.proofs.Digits.{mantissa-lt, mantissa-ge, precision-two}
-use Rattle.depth.proofs.Columns.{digits-counted, top-first}
+use Rattle.depth.proofs.Columns.{digits-counted}
+use Rattle.depth.proofs.Place.{top-first}
 use Rattle.depth.proofs.Amounts.{amount-is, low-like, like-self}
 use Rattle.rounding.proofs.Ends.{plus as positive, minus as negative}
 use Rattle.depth.proofs.EndsDecide.{sum-is}
