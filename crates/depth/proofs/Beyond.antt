@@ -23,7 +23,7 @@ use Rattle.depth.proofs.Rows.{Seen, Held}
 use Rattle.depth.proofs.RowsFar.{Unseen}
 use Rattle.depth.proofs.Pair.{Decides, Pair, seen-read, far-pair, hole-pair}
 use Rattle.depth.proofs.HoleTest.{hole-pair-is}
-use Rattle.depth.proofs.ReadPart.{counted, held, seen-is, seen-held, seen-pos, unseen-is}
+use Rattle.depth.proofs.ReadPart.{counted, held, seen-is, seen-held, seen-pos, unseen-first, unseen-below, unseen-cut, unseen-is}
 
 pub digits-are : (t k : ℕ) (z : Operand) → z .isZero ≡ false → readDigits t k z ≡ mantissa z / 2 ^ unread t k z
 unfolding readDigits
@@ -83,28 +83,16 @@ module _ (neg : Bool) (o : Mode) (p : ℕ) (P : 0 < p) (x y : Operand) (g : Well
 
   -- y's first digit lies above the lowest weight present
   first : s + 1 ≤ y .exponent
-  first = go (digits-counted y h q) sy (precision-two y h)
-    where
-      go : y .precision ≤ y .exponent → s ≤ lastWeight y → 2 ≤ y .precision → s + 1 ≤ y .exponent
-      go a b c = unfold lastWeight in omega (arith, low-is)
-        where
-          low-is : lastWeight y ≡ y .exponent - y .precision
-          low-is = unfold lastWeight in refl
+  first = unseen-first t k s y h q y-top sy unseen
 
   below : 64 * k + y .exponent ≤ t
-  below = go (y .exponent) unseen K
-    where
-      go : (e : ℕ) → 64 * k ≤ t - e → 1 ≤ k → 64 * k + e ≤ t
-      go e u K = omega arith
+  below = unseen-below t k s y h q y-top sy unseen K
 
   far : (u : ℕ) → unread t k x ≡ suc u → Decides (farPair o p (j + s) (x .negative) (y .negative) (readPart t k s x) (unread t k x) f) (Pair neg o p s P (x .negative) (y .negative) xl xh yl yh)
   far u e =
       subst (λ (n : ℕ). Decides (farPair o p (j + s) (x .negative) (y .negative) (readPart t k s x) n f) (Pair neg o p s P (x .negative) (y .negative) xl xh yl yh)) (sym e)
-      (far-pair neg o p s P (x .negative) (y .negative) j (readPart t k s x) u xl xh v f yl yh (subst (λ (n : ℕ). Seen j (readPart t k s x) n xl xh) e seen) (unseen-is t k s y h q y-top sy unseen) (weight (y .exponent) first below)
+      (far-pair neg o p s P (x .negative) (y .negative) j (readPart t k s x) u xl xh v f yl yh (subst (λ (n : ℕ). Seen j (readPart t k s x) n xl xh) e seen) (unseen-is t k s y h q y-top sy unseen) (unseen-cut t k s y h q y-top sy unseen K)
       (subst (Held s j) (sym (read-is t k s x r)) (seen-held t k s x g r x-top sx flat)) (subst (λ (n : ℕ). 0 < n) (sym (read-is t k s x r)) (seen-pos t k s x g r x-top sx flat)))
-    where
-      weight : (e : ℕ) → s + 1 ≤ e → 64 * k + e ≤ t → e - 1 - s + suc (t - 64 * k - e) ≡ t - 64 * k - s
-      weight e a b = omega arith
 
   -- all of x is read
   module _ (read : unread t k x ≡ 0) where

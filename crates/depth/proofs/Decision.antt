@@ -35,7 +35,7 @@ reach-cases t k z e = go (z .isZero) refl
     go true f = inl f
     go false f = inr (f, ltb-true (t - z .exponent) (64 * k) (rw f at e))
 
-not-reached : (t k : ℕ) (z : Operand) → reaches? t k z ≡ false → (z .isZero ≡ false) × (64 * k ≤ t - z .exponent)
+pub not-reached : (t k : ℕ) (z : Operand) → reaches? t k z ≡ false → (z .isZero ≡ false) × (64 * k ≤ t - z .exponent)
 unfolding reaches?
 not-reached t k z e = go (z .isZero) refl
   where
@@ -47,24 +47,24 @@ digits-nil : (t k : ℕ) (z : Operand) → z .isZero ≡ true → readDigits t k
 unfolding readDigits
 digits-nil t k z e = rw e
 
-read-nil : (t k s : ℕ) (z : Operand) → z .isZero ≡ true → readPart t k s z ≡ 0
+pub read-nil : (t k s : ℕ) (z : Operand) → z .isZero ≡ true → readPart t k s z ≡ 0
 unfolding readPart
 read-nil t k s z e = ap (λ (n : ℕ). n * 2 ^ (unread t k z + (lastWeight z - s) - (t - 64 * k - s))) (digits-nil t k z e) ∙ zero-mul _
 
-left-nil : (t k : ℕ) (z : Operand) → z .isZero ≡ true → leftOver t k z ≡ 0
+pub left-nil : (t k : ℕ) (z : Operand) → z .isZero ≡ true → leftOver t k z ≡ 0
 unfolding leftOver
 left-nil t k z e = rw e
 
-left-is : (t k : ℕ) (z : Operand) → z .isZero ≡ false → leftOver t k z ≡ unread t k z
+pub left-is : (t k : ℕ) (z : Operand) → z .isZero ≡ false → leftOver t k z ≡ unread t k z
 unfolding leftOver
 left-is t k z e = rw e
 
-record ReadIn (t k s : ℕ) (z : Operand) : Type 0 where
-  seen : Seen (t - 64 * k - s) (readPart t k s z) (leftOver t k z) (amount s (end t k z false)) (amount s (end t k z true))
-  held : Held s (t - 64 * k - s) (readPart t k s z)
-  pos : z .isZero ≡ false → 0 < readPart t k s z
+pub record ReadIn (t k s : ℕ) (z : Operand) : Type 0 where
+  pub seen : Seen (t - 64 * k - s) (readPart t k s z) (leftOver t k z) (amount s (end t k z false)) (amount s (end t k z true))
+  pub held : Held s (t - 64 * k - s) (readPart t k s z)
+  pub pos : z .isZero ≡ false → 0 < readPart t k s z
 
-read-in : (t k s : ℕ) (z : Operand) → WellFormed z → (z .isZero ≡ false → z .exponent ≤ t) → (z .isZero ≡ false → s ≤ lastWeight z) → reaches? t k z ≡ true → ReadIn t k s z
+pub read-in : (t k s : ℕ) (z : Operand) → WellFormed z → (z .isZero ≡ false → z .exponent ≤ t) → (z .isZero ≡ false → s ≤ lastWeight z) → reaches? t k z ≡ true → ReadIn t k s z
 read-in t k s z g top sc e = go (reach-cases t k z e)
   where
     by : {n u : ℕ} → readPart t k s z ≡ n → leftOver t k z ≡ u → Seen (t - 64 * k - s) n u (amount s (end t k z false)) (amount s (end t k z true)) → Held s (t - 64 * k - s) n → (z .isZero ≡ false → 0 < n) → ReadIn t k s z

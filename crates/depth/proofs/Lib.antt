@@ -24,4 +24,5 @@ pub mod HoleTest
 pub mod ReadPart
 pub mod Beyond
 pub mod Decision
+pub mod Covered
 pub mod Examples

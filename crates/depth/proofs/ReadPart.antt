@@ -138,6 +138,12 @@ nil-held s j = record { from = λ h. absurd (omega arith); to = λ h. absurd (om
 
 -- ---- nothing of it is read
 
+apart : (c t e : ℕ) → c ≤ t - e → 0 < c → c + e ≤ t
+apart c t e u h = omega arith
+
+between-cuts : (e c t s : ℕ) → s + 1 ≤ e → c + e ≤ t → e - 1 - s + suc (t - c - e) ≡ t - c - s
+between-cuts e c t s a b = omega arith
+
 module _ (t k s : ℕ) (x : Operand) (g : WellFormed x) (r : x .isZero ≡ false) (top : x .exponent ≤ t) (sc : s ≤ lastWeight x) (unseen : 64 * k ≤ t - x .exponent) where
   abbrev h : ℕ
   h = lastWeight x - s
@@ -159,6 +165,22 @@ module _ (t k s : ℕ) (x : Operand) (g : WellFormed x) (r : x .isZero ≡ false
   most-digits : digitsAt t k x true ≡ 2 ^ x .precision - 1
   unfolding digitsAt
   most-digits = ap (λ (z : ℕ). z + (2 ^ unread t k x - 1)) none-read ∙ ap (λ (z : ℕ). 0 + (2 ^ z - 1)) all-left ∙ omega arith
+
+  -- its first digit lies below the cut, and above the lowest weight present
+  pub unseen-first : s + 1 ≤ x .exponent
+  unseen-first = go (x .exponent) (x .precision) (lastWeight x - s) (expo-is x g r s sc) (precision-two x g)
+    where
+      go : (e m c : ℕ) → m + c + s ≡ e → 2 ≤ m → s + 1 ≤ e
+      go e m c w M = omega arith
+
+  pub unseen-below : 1 ≤ k → 64 * k + x .exponent ≤ t
+  unseen-below K = apart (64 * k) t (x .exponent) unseen (some K)
+    where
+      some : 1 ≤ k → 0 < 64 * k
+      some K = omega arith
+
+  pub unseen-cut : 1 ≤ k → x .exponent - 1 - s + suc (t - 64 * k - x .exponent) ≡ t - 64 * k - s
+  unseen-cut K = between-cuts (x .exponent) (64 * k) t s unseen-first (unseen-below K)
 
   pub unseen-is : Unseen (x .exponent - 1 - s) (amount s (end t k x false)) (amount s (end t k x true))
   unseen-is = subst (λ (v : ℕ). Unseen v (amount s (end t k x false)) (amount s (end t k x true))) (sym first) (record {
