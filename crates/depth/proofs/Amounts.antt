@@ -50,12 +50,15 @@ pub low-like : (t k : ℕ) (x z : Operand) → Like t k x z → lastWeight z ≡
 unfolding lastWeight
 low-like t k x z l = let a = l .exponent in let b = l .precision in cc
 
+pub mantissa-end : (t k : ℕ) (x : Operand) → WellFormed x → (b : Bool) → x .isZero ≡ false → mantissa (end t k x b) ≡ digitsAt t k x b
+mantissa-end t k x g b r = ap mantissa (end-put t k x b r) ∙ put-mantissa x (digitsAt t k x b) (at-most t k x g r b)
+
 pub amount-end : (t k s : ℕ) (x : Operand) → WellFormed x → x .exponent ≤ t → (b : Bool) → x .isZero ≡ false → amount s (end t k x b) ≡ digitsAt t k x b * 2 ^ (lastWeight x - s)
 amount-end t k s x g top b r =
     let l = like-end t k x g (λ e. top) b in
     amount-is s (end t k x b) (l .isZero ∙ r)
     ∙ ap (λ (z : ℕ). mantissa (end t k x b) * 2 ^ (z - s)) (low-like t k x (end t k x b) l)
-    ∙ ap (λ (z : ℕ). z * 2 ^ (lastWeight x - s)) (ap mantissa (end-put t k x b r) ∙ put-mantissa x (digitsAt t k x b) (at-most t k x g r b))
+    ∙ ap (λ (z : ℕ). z * 2 ^ (lastWeight x - s)) (mantissa-end t k x g b r)
 
 module _ (t k s : ℕ) (x : Operand) (g : WellFormed x) (top : x .isZero ≡ false → x .exponent ≤ t) (z : Operand) (l : Like t k x z) where
   amounts : (amount s (end t k x false) ≤ amount s z) × (amount s z ≤ amount s (end t k x true))

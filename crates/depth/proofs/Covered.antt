@@ -2,12 +2,10 @@
 -- so the columns down to p are needed in any case. For else some p-digit number lies between the ends.
 use mathlib.Core.Path.{_≡_, refl, sym, ap, _∙_, subst}
 use mathlib.Core.Logic.{_⊎_, inl, inr}
-use mathlib.Core.Bool.{Bool, true, false, _||_}
+use mathlib.Core.Bool.{Bool, true, false}
 use Prim.Native.Nat.{ℕ, zero, suc, _+_, _-_, _*_, _/_, _^_, _≤_, _<_, compare, Ordering, Ordering·lt, Ordering·eq, Ordering·gt}
 use native.Mathlib.Nat.{le-refl, le-trans, le-of-eq, le-of-lt, lt-of-lt-of-le, lt-of-le-of-lt, lt-of-mul-lt-mul-right, mul-lt-mul-of-pos-right, mul-le-mul-right, mul-comm, mul-sub, mul-assoc, pow-succ', add-comm, add-mul, suc-mul, zero-mul}
 use native.Mathlib.Omega.{arith}
-use borrow.Author.Tests.{lt-ltb}
-use lib.Dec.{ltb}
 use lib.Pow.{pow-pos, pow-mono, pow-add}
 use Rattle.number.specs.Operand.{Operand, mantissa, lastWeight, WellFormed}
 use Rattle.number.proofs.Digits.{mantissa-lt, precision-two}
@@ -32,7 +30,7 @@ use Rattle.depth.proofs.Rows.{Seen, last-half}
 use Rattle.depth.proofs.RowsFar.{Unseen}
 use Rattle.depth.proofs.Pair.{Ends, Pair}
 use Rattle.depth.proofs.ReadPart.{unseen-cut, unseen-is}
-use Rattle.depth.proofs.Decision.{ReadIn, read-in, not-reached, left-is, read-nil, Shown, ShownBy, shown, fixed-amounts}
+use Rattle.depth.proofs.Decision.{reached, ReadIn, read-in, not-reached, left-is, read-nil, Shown, ShownBy, shown, fixed-amounts}
 
 -- neither refusal
 pub record Accepted (a : Answer) : Type 0 where
@@ -208,14 +206,6 @@ read-lt t k s z g top sc a = go (z .isZero) refl
         lt-of-mul-lt-mul-right (2 ^ j)
         (lt-of-lt-of-le (lt-of-le-of-lt (le-of-eq (sym (a .seen .low) ∙ amount-end t k s z g (top e) false e)) (mul-lt-mul-of-pos-right (at-most t k z g e false) (pow-pos (lastWeight z - s))))
         (le-trans (le-of-eq (sym (pow-add 2 (z .precision) (lastWeight z - s)))) (le-trans (pow-mono (fits (z .exponent) (z .precision) (lastWeight z) (unfold lastWeight in refl) (digits-counted z g e) (top e) (sc e))) (le-of-eq (pow-add 2 (64 * k) j)))))
-
-reached : (t k : ℕ) (z : Operand) → t - z .exponent < 64 * k → reaches? t k z ≡ true
-unfolding reaches?
-reached t k z h = go (z .isZero)
-  where
-    go : (b : Bool) → (b || ltb (t - z .exponent) (64 * k)) ≡ true
-    go true = refl
-    go false = lt-ltb (t - z .exponent) (64 * k) h
 
 -- x stands at the top and has an unread digit, and nothing of y is read
 module _ (p t k s : ℕ) (x y : Operand) (g : WellFormed x) (h : WellFormed y) (r : x .isZero ≡ false) (q : y .isZero ≡ false)

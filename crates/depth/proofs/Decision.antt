@@ -5,7 +5,7 @@ use mathlib.Core.Bool.{Bool, true, false, not, cond, _&&_, _||_, true≢false}
 use Prim.Native.Nat.{ℕ, zero, suc, _+_, _-_, _*_, _/_, _%_, _^_, _≤_, _<_, min, max, compare}
 use native.Mathlib.Nat.{le-refl, le-trans, le-of-eq, add-comm, zero-mul}
 use native.Mathlib.Omega.{arith}
-use borrow.Author.Tests.{ltb-true, ltb-false}
+use borrow.Author.Tests.{ltb-true, ltb-false, lt-ltb, le-ltb}
 use lib.Dec.{ltb}
 use Rattle.number.specs.Operand.{Operand, mantissa, lastWeight, WellFormed}
 use Rattle.rounding.specs.Mode.{Mode}
@@ -26,6 +26,18 @@ use Rattle.depth.proofs.Rows.{Seen, Held}
 use Rattle.depth.proofs.Pair.{Decides, Ends, Pair, seen-pair}
 use Rattle.depth.proofs.ReadPart.{seen-is, seen-held, seen-pos, nil-seen, nil-held}
 use Rattle.depth.proofs.Beyond.{digits-are, read-is, beyond-decides}
+
+pub reached : (t k : ℕ) (z : Operand) → t - z .exponent < 64 * k → reaches? t k z ≡ true
+unfolding reaches?
+reached t k z h = go (z .isZero)
+  where
+    go : (b : Bool) → (b || ltb (t - z .exponent) (64 * k)) ≡ true
+    go true = refl
+    go false = lt-ltb (t - z .exponent) (64 * k) h
+
+pub not-reaching : (t k : ℕ) (z : Operand) → z .isZero ≡ false → 64 * k ≤ t - z .exponent → reaches? t k z ≡ false
+unfolding reaches?
+not-reaching t k z r h = rw (r, le-ltb (t - z .exponent) (64 * k) h)
 
 reach-cases : (t k : ℕ) (z : Operand) → reaches? t k z ≡ true → (z .isZero ≡ true) ⊎ ((z .isZero ≡ false) × (t - z .exponent < 64 * k))
 unfolding reaches?

@@ -25,6 +25,7 @@ use Rattle.number.proofs.Digits.{precision-two}
 use Rattle.depth.proofs.Place.{top-first, top-second}
 use Rattle.depth.proofs.Reach.{end, digitsAt}
 use Rattle.depth.proofs.Amounts.{like-end, like-self, amount-end}
+use Rattle.depth.proofs.Another.{ends-meet}
 use Rattle.depth.proofs.EndsDecide.{add-is, own, other}
 
 -- ---- an exact answer is the value
@@ -83,28 +84,7 @@ same-value q o p s P a b a' b' t e d h k = go (compare a b) (compare a' b') (cmp
     go Ordering·gt Ordering·gt u v = let m = same-size P (way o false) (way o false) s false (a - b) (a' - b') t e d (up a b u h) (up a' b' v k) in omega arith
     go Ordering·lt Ordering·lt u v = let m = same-size P (way o true) (way o true) s true (b - a) (b' - a') t e d (down a b u h) (down a' b' v k) in omega arith
 
--- ---- the ends differ where a digit is unread
-
-parity : (a b d : ℕ) → 0 < b → max (2 * d) (2 * a) ≡ 2 * a + (2 * b - 1) → ⊥
-parity a b d B h = omega arith
-
-pub ends-meet : (t k : ℕ) (x : Operand) → WellFormed x → digitsAt t k x false ≡ digitsAt t k x true → unread t k x ≡ 0
-unfolding digitsAt
-ends-meet t k x g h = go (unread t k x) (x .precision) (precision-two x g) h
-  where
-    go : (u p : ℕ) → 2 ≤ p → max (2 ^ (p - 1)) (mantissa x / 2 ^ u * 2 ^ u) ≡ mantissa x / 2 ^ u * 2 ^ u + (2 ^ u - 1) → u ≡ 0
-    go zero p P h = refl
-    go (suc u) zero P h = absurd (omega arith)
-    go (suc u) (suc zero) P h = absurd (omega arith)
-    go (suc u) (suc (suc p)) P h =
-        let q = mantissa x / 2 ^ suc u in
-        let a : 2 ^ (suc (suc p) - 1) ≡ 2 * 2 ^ p = ap (λ (z : ℕ). 2 ^ z) (pred (suc p)) ∙ pow-succ' 2 p in
-        let b : 2 ^ suc u ≡ 2 * 2 ^ u = pow-succ' 2 u in
-        let c : q * 2 ^ suc u ≡ 2 * (q * 2 ^ u) = ap (λ (z : ℕ). q * z) b ∙ mul-left-comm q 2 (2 ^ u) in
-        absurd (parity (q * 2 ^ u) (2 ^ u) (2 ^ p) (pow-pos u) (cc))
-      where
-        pred : (p : ℕ) → suc p - 1 ≡ p
-        pred p = omega arith
+-- ---- what is taken for exact is read
 
 -- an operand whose two ends add the same is read
 module _ (t k s : ℕ) (x : Operand) (g : WellFormed x) (r : x .isZero ≡ false) (top : x .exponent ≤ t)

@@ -10,6 +10,8 @@ pub mod AllRead
 pub mod Hole
 pub mod Far
 pub mod Bounds
+pub mod Used
+pub mod Another
 pub mod ExactRead
 pub mod Lean
 pub mod Settled
@@ -25,4 +27,5 @@ pub mod ReadPart
 pub mod Beyond
 pub mod Decision
 pub mod Covered
+pub mod HoleVerdict
 pub mod Examples
