@@ -1,4 +1,4 @@
--- A fixed answer with ternary 0 leaves no digit unread.
+-- A fixed answer with ternary value 0 leaves no digit unread.
 use mathlib.Core.Path.{_≡_, refl, sym, ap, _∙_, subst}
 use mathlib.Core.Logic.{_⊎_, inl, inr}
 use mathlib.Core.Bool.{Bool, true, false, not, cond, _&&_, Bool·beq, true≢false}
@@ -20,7 +20,7 @@ use Rattle.depth.specs.Depth.{plus, result, Fixed}
 use Rattle.rounding.proofs.Order.{Cmp, cmp, mul-one-one}
 use Rattle.rounding.proofs.Selection.{chosen-rep}
 use Rattle.rounding.proofs.Between.{digits-one, turned-one}
-use Rattle.rounding.proofs.Ends.{plus as positive, minus as negative, nought}
+use Rattle.rounding.proofs.Ends.{plus as positive, minus as negative, nought, regular}
 use Rattle.number.proofs.Digits.{precision-two}
 use Rattle.depth.proofs.Place.{top-first, top-second}
 use Rattle.depth.proofs.Reach.{end, digitsAt}
@@ -63,7 +63,7 @@ same-size {p} P v w s n a b t e d x y =
     drop : {i j : ℕ} → i + s ≡ j + s → i ≡ j
     drop h = omega arith
 
-pub same-value : (q : Bool) (o : Mode) (p s : ℕ) → 0 < p → (a b a' b' : ℕ) (t : Bool) (e d : ℕ) → answer q o p s a b ≡ number t e d Ordering·eq → answer q o p s a' b' ≡ number t e d Ordering·eq → a + b' ≡ a' + b
+same-value : (q : Bool) (o : Mode) (p s : ℕ) → 0 < p → (a b a' b' : ℕ) (t : Bool) (e d : ℕ) → answer q o p s a b ≡ number t e d Ordering·eq → answer q o p s a' b' ≡ number t e d Ordering·eq → a + b' ≡ a' + b
 same-value q o p s P a b a' b' t e d h k = go (compare a b) (compare a' b') (cmp a b) (cmp a' b')
   where
     no-zero : (i j : ℕ) → i ≡ j → answer q o p s i j ≡ number t e d Ordering·eq → ⊥
@@ -102,21 +102,38 @@ module _ (t k s : ℕ) (x : Operand) (g : WellFormed x) (r : x .isZero ≡ false
   read-whole : unread t k x ≡ 0
   read-whole = ends-meet t k x g (mul-one-one (digitsAt t k x false) (digitsAt t k x true) (2 ^ (lastWeight x - s)) (pow-pos (lastWeight x - s)) (sym (amount-end t k s x g top false r) ∙ amounts ∙ amount-end t k s x g top true r))
 
-module _ (o : Mode) (p : ℕ) (P : 0 < p) (x y : Operand) (g : WellFormed x) (h : WellFormed y) (k : ℕ) (f : Fixed plus o p x y k)
-    (n : Bool) (e d : ℕ) (exact : add o p x y ≡ number n e d Ordering·eq) where
+-- an answer with ternary value 0: a zero, or a number that is the exact value
+pub data Exact : Answer → Type 0 where
+  exactZero : (z : Bool) → Exact (zeroOf z)
+  exactNumber : (n : Bool) (e d : ℕ) → Exact (number n e d Ordering·eq)
+
+zero-value : (q : Bool) (o : Mode) (p s : ℕ) → 0 < p → (a b : ℕ) (z : Bool) → answer q o p s a b ≡ zeroOf z → a ≡ b
+zero-value q o p s P a b z h = go (compare a b) (cmp a b)
+  where
+    go : (x : Ordering) → Cmp x a b → a ≡ b
+    go Ordering·lt u = absurd (regular (way o true) p s true z (b - a) (sym (negative q o p s P a b u) ∙ h))
+    go Ordering·eq u = u
+    go Ordering·gt u = absurd (regular (way o false) p s false z (a - b) (sym (positive q o p s P a b u) ∙ h))
+
+-- it has one value
+exact-value : (q : Bool) (o : Mode) (p s : ℕ) → 0 < p → (a b c d : ℕ) (v : Answer) → Exact v → answer q o p s a b ≡ v → answer q o p s c d ≡ v → a + d ≡ c + b
+exact-value q o p s P a b c d v (exactZero z) h k = let e = zero-value q o p s P a b z h in let f = zero-value q o p s P c d z k in omega arith
+exact-value q o p s P a b c d v (exactNumber n e i) h k = same-value q o p s P a b c d n e i h k
+
+module _ (o : Mode) (p : ℕ) (P : 0 < p) (x y : Operand) (g : WellFormed x) (h : WellFormed y) (k : ℕ) (f : Fixed plus o p x y k) (e : Exact (add o p x y)) where
   abbrev t : ℕ
   t = topExponent x y
 
   abbrev s : ℕ
   s = scale x y
 
-  -- what is taken for exact has one value, whatever pair stands for x and y
+  -- every pair that may stand for x and y has this value
   one-value : (z w v u : Operand) → Like t k x z → Like t k y w → Like t k x v → Like t k y u
       → (share false s z + share false s w) + (share true s v + share true s u) ≡ (share false s v + share false s u) + (share true s z + share true s w)
   unfolding Fixed result
   one-value z w v u l m i j =
-      same-value (zeroSign o (x .negative) (y .negative)) o p s P (share false s z + share false s w) (share true s z + share true s w) (share false s v + share false s u) (share true s v + share true s u) n e d
-      (sym (add-is o p x y k z w l m) ∙ f z w l m ∙ exact) (sym (add-is o p x y k v u i j) ∙ f v u i j ∙ exact)
+      exact-value (zeroSign o (x .negative) (y .negative)) o p s P (share false s z + share false s w) (share true s z + share true s w) (share false s v + share false s u) (share true s v + share true s u) (add o p x y) e
+      (sym (add-is o p x y k z w l m) ∙ f z w l m) (sym (add-is o p x y k v u i j) ∙ f v u i j)
 
   pub first-read : x .isZero ≡ false → unread t k x ≡ 0
   first-read r = read-whole t k s x g r (top-first x y r) (omega (arith, one-value (end t k x false) y (end t k x true) y (l false) (like-self t k y h) (l true) (like-self t k y h)))

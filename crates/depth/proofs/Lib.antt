@@ -29,3 +29,4 @@ pub mod Decision
 pub mod Covered
 pub mod HoleVerdict
 pub mod Examples
+pub mod Theorems

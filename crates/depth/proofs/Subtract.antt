@@ -62,19 +62,20 @@ unfolding addend
 like-addend plus t k y w l = l
 like-addend minus t k y w l = like-turned t k y w l
 
+module _ (f : Operation) (x y : Operand) (k : ℕ) where
+  from-sum : (z : Operand) → Like (topExponent x (addend f y)) k x z → Like (topExponent x y) k x z
+  from-sum z l = subst (λ (t : ℕ). Like t k x z) (top-is f x y) l
+
+  pub like-sum : (z : Operand) → Like (topExponent x y) k x z → Like (topExponent x (addend f y)) k x z
+  like-sum z l = subst (λ (t : ℕ). Like t k x z) (sym (top-is f x y)) l
+
+  from-second-sum : (w : Operand) → Like (topExponent x (addend f y)) k (addend f y) w → Like (topExponent x y) k y (addend f w)
+  from-second-sum w m = subst (λ (v : Operand). Like (topExponent x y) k v (addend f w)) (twice f y) (like-addend f (topExponent x y) k (addend f y) w (subst (λ (t : ℕ). Like t k (addend f y) w) (top-is f x y) m))
+
+  pub like-second-sum : (w : Operand) → Like (topExponent x y) k y w → Like (topExponent x (addend f y)) k (addend f y) (addend f w)
+  like-second-sum w m = subst (λ (t : ℕ). Like t k (addend f y) (addend f w)) (sym (top-is f x y)) (like-addend f (topExponent x y) k y w m)
+
 module _ (f : Operation) (o : Mode) (p : ℕ) (x y : Operand) (k : ℕ) where
-  to : (z : Operand) → Like (topExponent x (addend f y)) k x z → Like (topExponent x y) k x z
-  to z l = subst (λ (t : ℕ). Like t k x z) (top-is f x y) l
-
-  from : (z : Operand) → Like (topExponent x y) k x z → Like (topExponent x (addend f y)) k x z
-  from z l = subst (λ (t : ℕ). Like t k x z) (sym (top-is f x y)) l
-
-  to-second : (w : Operand) → Like (topExponent x (addend f y)) k (addend f y) w → Like (topExponent x y) k y (addend f w)
-  to-second w m = subst (λ (v : Operand). Like (topExponent x y) k v (addend f w)) (twice f y) (like-addend f (topExponent x y) k (addend f y) w (subst (λ (t : ℕ). Like t k (addend f y) w) (top-is f x y) m))
-
-  from-second : (w : Operand) → Like (topExponent x y) k y w → Like (topExponent x (addend f y)) k (addend f y) (addend f w)
-  from-second w m = subst (λ (t : ℕ). Like t k (addend f y) (addend f w)) (sym (top-is f x y)) (like-addend f (topExponent x y) k y w m)
-
   sum-is : (a b : Operand) → result plus o p a b ≡ add o p a b
   unfolding result
   sum-is a b = refl
@@ -82,7 +83,7 @@ module _ (f : Operation) (o : Mode) (p : ℕ) (x y : Operand) (k : ℕ) where
   pub fixed-result : Fixed plus o p x (addend f y) k → Fixed f o p x y k
   unfolding Fixed
   fixed-result u z w l m =
-      result-is f o p z w ∙ sym (sum-is z (addend f w)) ∙ u z (addend f w) (from z l) (from-second w m)
+      result-is f o p z w ∙ sym (sum-is z (addend f w)) ∙ u z (addend f w) (like-sum f x y k z l) (like-second-sum f x y k w m)
       ∙ sum-is x (addend f y) ∙ sym (result-is f o p x y)
 
   -- the result of the turned pair
@@ -91,14 +92,14 @@ module _ (f : Operation) (o : Mode) (p : ℕ) (x y : Operand) (k : ℕ) where
 
   pub fixed-sum : Fixed f o p x y k → Fixed plus o p x (addend f y) k
   unfolding Fixed
-  fixed-sum u z w l m = back-again z w ∙ u z (addend f w) (to z l) (to-second w m) ∙ result-is f o p x y ∙ sym (sum-is x (addend f y))
+  fixed-sum u z w l m = back-again z w ∙ u z (addend f w) (from-sum f x y k z l) (from-second-sum f x y k w m) ∙ result-is f o p x y ∙ sym (sum-is x (addend f y))
 
   pub open-result : Open plus o p x (addend f y) k → Open f o p x y k
   unfolding Open
   open-result u = (
     u .0,
     addend f (u .1),
-    to (u .0) (u .2),
-    to-second (u .1) (u .3),
+    from-sum f x y k (u .0) (u .2),
+    from-second-sum f x y k (u .1) (u .3),
     λ e. u .4 (back-again (u .0) (u .1) ∙ e ∙ result-is f o p x y ∙ sym (sum-is x (addend f y))),
   )
