@@ -2,4 +2,3 @@ pub mod Columns
 pub mod Depth
 pub mod Read
 pub mod Bound
-pub mod Decide

@@ -10,20 +10,20 @@ use lib.Ieee.{size}
 use Rattle.number.specs.Operand.{Operand, mantissa, lastWeight, WellFormed}
 use Rattle.rounding.specs.Mode.{Mode}
 use Rattle.rounding.specs.Sum.{amount}
 use Rattle.depth.specs.Read.{unread}
 use Rattle.number.specs.Limits.{leastExponent, mostExponent}
 use Rattle.rounding.proofs.Selection.{multiple}
 use Rattle.number.proofs.Digits.{mantissa-lt, mantissa-ge, precision-two}
 use Rattle.depth.proofs.Columns.{digits-counted}
 use Rattle.depth.proofs.Reach.{digitsAt, end}
 use Rattle.depth.proofs.Amounts.{amount-end}
 use Rattle.depth.proofs.Meet.{least-is}
-use Rattle.depth.specs.Decide.{some?, readDigits, readPart, beyond, farPair, holePair, holeBySize}
-use Rattle.depth.proofs.Rows.{Seen, Held}
-use Rattle.depth.proofs.RowsFar.{Unseen}
-use Rattle.depth.proofs.Pair.{Decides, Pair, seen-read, far-pair, hole-pair}
-use Rattle.depth.proofs.HoleTest.{hole-pair-is}
-use Rattle.depth.proofs.ReadPart.{counted, held, seen-is, seen-held, seen-pos, unseen-first, unseen-below, unseen-cut, unseen-is}
+use Rattle.decide.specs.Decide.{some?, readDigits, readPart, beyond, farPair, holePair, holeBySize}
+use Rattle.decide.proofs.Rows.{Seen, Held}
+use Rattle.decide.proofs.RowsFar.{Unseen}
+use Rattle.decide.proofs.Pair.{Decides, Pair, seen-read, far-pair, hole-pair}
+use Rattle.decide.proofs.HoleTest.{hole-pair-is}
+use Rattle.decide.proofs.ReadPart.{counted, held, seen-is, seen-held, seen-pos, unseen-first, unseen-below, unseen-cut, unseen-is}
 
 pub digits-are : (t k : ℕ) (z : Operand) → z .isZero ≡ false → readDigits t k z ≡ mantissa z / 2 ^ unread t k z
 unfolding readDigits

@@ -16,8 +16,8 @@ use Rattle.rounding.specs.Select.{quotient, unit, chosen, onGrid}
 use Rattle.rounding.proofs.Selection.{Rep, full, chosen-mono}
 use Rattle.rounding.proofs.Order.{le-or-lt, Cmp, cmp, compare-at, size-mono, mul-one-one}
 use Rattle.rounding.proofs.Scale.{exact, size-shift}
-use Rattle.depth.specs.Decide.{tie, off, lean, step, alike, enough, settled}
-use Rattle.depth.proofs.Lean.{zero-or, Part, Halves, lean-exact, lean-rest, lean-more, lean-scale, quot-lean, tern-lean}
+use Rattle.decide.specs.Decide.{tie, off, lean, step, alike, enough, settled}
+use Rattle.decide.proofs.Lean.{zero-or, Part, Halves, lean-exact, lean-rest, lean-more, lean-scale, quot-lean, tern-lean}
 
 -- selected alike, with the same ternary value
 pub record Alike (w : Way) (p lo hi : ℕ) : Type 0 where

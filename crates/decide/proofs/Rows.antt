@@ -11,10 +11,10 @@ use lib.Pow.{pow-pos, pow-mono, pow-add}
 use lib.Ieee.{size}
 use Rattle.number.specs.Limits.{leastExponent, mostExponent}
 use Rattle.rounding.proofs.Order.{size-mono}
-use Rattle.depth.proofs.Lean.{Part, zero-or}
-use Rattle.depth.specs.Decide.{some?}
-use Rattle.depth.proofs.Settled.{Span}
-use Rattle.depth.proofs.Range.{Sides}
+use Rattle.decide.proofs.Lean.{Part, zero-or}
+use Rattle.decide.specs.Decide.{some?}
+use Rattle.decide.proofs.Settled.{Span}
+use Rattle.decide.proofs.Range.{Sides}
 
 -- x read digits above the cut 2 ^ j and u unread ones below it: x units at least, and u ones more at most; 2 ^ l is the weight of the last digit
 pub record Seen (j x u least most : ℕ) : Type 0 where

@@ -11,11 +11,11 @@ use lib.Pow.{pow-pos, pow-mono, pow-add}
 use lib.Ieee.{size}
 use Rattle.number.specs.Limits.{leastExponent, mostExponent}
 use Rattle.rounding.proofs.Order.{size-mono}
-use Rattle.depth.proofs.Lean.{Part}
-use Rattle.depth.specs.Decide.{some?}
-use Rattle.depth.proofs.Settled.{Span}
-use Rattle.depth.proofs.Range.{Sides}
-use Rattle.depth.proofs.Rows.{Seen, Held, whole, last-one, last-half, last-quarter}
+use Rattle.decide.proofs.Lean.{Part}
+use Rattle.decide.specs.Decide.{some?}
+use Rattle.decide.proofs.Settled.{Span}
+use Rattle.decide.proofs.Range.{Sides}
+use Rattle.decide.proofs.Rows.{Seen, Held, whole, last-one, last-half, last-quarter}
 
 -- nothing is read: the first digit 2 ^ g at least, and all ones down to the last digit 2 ^ l at most
 pub record Unseen (g least most : ℕ) : Type 0 where

@@ -13,13 +13,13 @@ use Rattle.rounding.specs.Mode.{Mode, Way, way}
 use Rattle.rounding.specs.Answer.{rounded, answer}
 use Rattle.number.specs.Limits.{leastExponent, mostExponent}
 use Rattle.rounding.proofs.Order.{Cmp, cmp, compare-at, size-mono}
-use Rattle.depth.proofs.Lean.{zero-or}
+use Rattle.decide.proofs.Lean.{zero-or}
 use Rattle.rounding.proofs.Ends.{plus as positive, minus as negative}
-use Rattle.depth.specs.Decide.{some?, settled, decided, orLarge, orSmall, sameSigns, unlikeSigns, unlikePair, seenPair, farSame, farUnlike, holeSame, holeUnlike, farPair, holePair}
-use Rattle.depth.proofs.Settled.{Span}
-use Rattle.depth.proofs.Range.{Sides, decided-if, decided-only, only-large, only-small, no-refusal}
-use Rattle.depth.proofs.Rows.{Seen, Held, last-none, last-half, same-one, same-both, unlike-unread, unlike-read, sides-same-one, sides-same-both, sides-unlike-unread, sides-unlike-read}
-use Rattle.depth.proofs.RowsFar.{Unseen, far-same, far-unlike, hole-same, hole-unlike, sides-far-same, sides-far-unlike, sides-hole-same, sides-hole-unlike}
+use Rattle.decide.specs.Decide.{some?, settled, decided, orLarge, orSmall, sameSigns, unlikeSigns, unlikePair, seenPair, farSame, farUnlike, holeSame, holeUnlike, farPair, holePair}
+use Rattle.decide.proofs.Settled.{Span}
+use Rattle.decide.proofs.Range.{Sides, decided-if, decided-only, only-large, only-small, no-refusal}
+use Rattle.decide.proofs.Rows.{Seen, Held, last-none, last-half, same-one, same-both, unlike-unread, unlike-read, sides-same-one, sides-same-both, sides-unlike-unread, sides-unlike-read}
+use Rattle.decide.proofs.RowsFar.{Unseen, far-same, far-unlike, hole-same, hole-unlike, sides-far-same, sides-far-unlike, sides-hole-same, sides-hole-unlike}
 
 -- the test t decides A
 pub record Decides (t : Bool) (A : Type 0) : Type 0 where

@@ -19,11 +19,11 @@ use Rattle.rounding.proofs.Between.{is-large}
 use Rattle.rounding.proofs.Ends.{plus as positive}
 use Rattle.rounding.proofs.Selection.{Rep}
 use Rattle.rounding.proofs.Scale.{exact}
 use Rattle.depth.specs.Columns.{topExponent, limbsUsed}
 use Rattle.depth.specs.Read.{unread}
 use Rattle.depth.specs.Depth.{plus, Deciding}
-use Rattle.depth.specs.Decide.{tie, off, lean, step, enough, settled, bump, carry, shortLeast, shortMost, large?, small?, orLarge, orSmall, sameSigns, unlikeSigns, farSame, farUnlike, unlikePair, seenPair, farPair, hole?, holeBySize, reaches?, readDigits, readPart, leftOver, beyond, decideAt}
-use Rattle.depth.proofs.Decision.{depth-decided}
+use Rattle.decide.specs.Decide.{tie, off, lean, step, enough, settled, bump, carry, shortLeast, shortMost, large?, small?, orLarge, orSmall, sameSigns, unlikeSigns, farSame, farUnlike, unlikePair, seenPair, farPair, hole?, holeBySize, reaches?, readDigits, readPart, leftOver, beyond, decideAt}
+use Rattle.decide.proofs.Decision.{depth-decided}
 
 -- ---- regular numbers of one limb and of two
 

@@ -15,9 +15,9 @@ use Rattle.number.specs.Limits.{leastExponent, mostExponent}
 use Rattle.rounding.proofs.Order.{le-or-lt, Cmp, cmp, compare-at, size-mono}
 use Rattle.rounding.proofs.Even.{size-is}
 use Rattle.rounding.proofs.Scale.{size-shift}
-use Rattle.depth.proofs.Settled.{size-part}
-use Rattle.depth.proofs.Lean.{zero-or, lean-exact, lean-rest, lean-more}
-use Rattle.depth.specs.Decide.{some?, tie, off, lean, alike, enough, settled, bump, carry, shortLeast, large?, small?, decided, holeSame, holeUnlike, holePair, holeBySize, odd?, hole?}
+use Rattle.decide.proofs.Settled.{size-part}
+use Rattle.decide.proofs.Lean.{zero-or, lean-exact, lean-rest, lean-more}
+use Rattle.decide.specs.Decide.{some?, tie, off, lean, alike, enough, settled, bump, carry, shortLeast, large?, small?, decided, holeSame, holeUnlike, holePair, holeBySize, odd?, hole?}
 
 -- the part of `settled` behind `enough`
 abbrev inner : Way → ℕ → ℕ → ℕ → Bool → ℕ → Bool → Bool

@@ -11,21 +11,21 @@ use Rattle.number.specs.Operand.{Operand, mantissa, lastWeight, WellFormed}
 use Rattle.rounding.specs.Mode.{Mode}
 use Rattle.rounding.specs.Sum.{scale, share, amount, zeroSign}
 use Rattle.rounding.specs.Answer.{answer}
 use Rattle.depth.specs.Columns.{topExponent, Like}
 use Rattle.depth.specs.Read.{unread}
 use Rattle.depth.specs.Depth.{plus, Fixed, Open, Deciding}
 use Rattle.depth.proofs.Columns.{read-of}
 use Rattle.depth.proofs.Place.{top-swap, top-first, top-second, scale-first, scale-second, other-top}
 use Rattle.depth.proofs.Reach.{end}
 use Rattle.depth.proofs.Amounts.{low-like}
 use Rattle.depth.proofs.EndsDecide.{Alike, own-first, own-second, other-first, other-second, fixed-if, fixed-or}
 use Rattle.depth.proofs.Least.{not-both}
 use Rattle.depth.proofs.AllRead.{read-fixed}
-use Rattle.depth.specs.Decide.{sameSigns, unlikePair, reaches?, readDigits, readPart, leftOver, beyond, seenPair, decideAt}
-use Rattle.depth.proofs.Rows.{Seen, Held}
-use Rattle.depth.proofs.Pair.{Decides, Ends, Pair, seen-pair}
-use Rattle.depth.proofs.ReadPart.{seen-is, seen-held, seen-pos, nil-seen, nil-held}
-use Rattle.depth.proofs.Beyond.{digits-are, read-is, beyond-decides}
+use Rattle.decide.specs.Decide.{sameSigns, unlikePair, reaches?, readDigits, readPart, leftOver, beyond, seenPair, decideAt}
+use Rattle.decide.proofs.Rows.{Seen, Held}
+use Rattle.decide.proofs.Pair.{Decides, Ends, Pair, seen-pair}
+use Rattle.decide.proofs.ReadPart.{seen-is, seen-held, seen-pos, nil-seen, nil-held}
+use Rattle.decide.proofs.Beyond.{digits-are, read-is, beyond-decides}
 
 pub reached : (t k : ℕ) (z : Operand) → t - z .exponent < 64 * k → reaches? t k z ≡ true
 unfolding reaches?

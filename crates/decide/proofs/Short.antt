@@ -16,10 +16,10 @@ use Rattle.rounding.proofs.Selection.{Rep, full, chosen-mono, under-le}
 use Rattle.rounding.proofs.Order.{le-or-lt, compare-at, size-mono}
 use Rattle.rounding.proofs.Even.{size-is}
 use Rattle.rounding.proofs.Scale.{exact, size-shift, chosen-shift}
-use Rattle.depth.specs.Decide.{tie, off, lean, step, bump, shortLeast, shortMost}
-use Rattle.depth.proofs.Lean.{zero-or, lean-exact, lean-rest}
-use Rattle.depth.proofs.Settled.{Enough, size-part, unit-part, chosen-at}
-use Rattle.depth.proofs.Carry.{size-bump, size-pow}
+use Rattle.decide.specs.Decide.{tie, off, lean, step, bump, shortLeast, shortMost}
+use Rattle.decide.proofs.Lean.{zero-or, lean-exact, lean-rest}
+use Rattle.decide.proofs.Settled.{Enough, size-part, unit-part, chosen-at}
+use Rattle.decide.proofs.Carry.{size-bump, size-pow}
 
 -- all ones, more than p of them, go up to the next power of two, except toward zero
 goes-up : Way → Bool

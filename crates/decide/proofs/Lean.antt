@@ -12,7 +12,7 @@ use lib.Ieee.Nearest.{closest}
 use Rattle.rounding.specs.Mode.{Way, near, under, over}
 use Rattle.rounding.specs.Select.{quotient}
 use Rattle.rounding.proofs.Order.{le-or-lt, Cmp, cmp, compare-at}
-use Rattle.depth.specs.Decide.{tie, off, lean, step}
+use Rattle.decide.specs.Decide.{tie, off, lean, step}
 
 -- a is what lies below one unit u: nothing, or something
 abbrev pub Part : Bool → ℕ → ℕ → Type 0

@@ -8,13 +8,13 @@ use borrow.Author.Tests.{lt-ltb, le-ltb}
 use Rattle.number.specs.Operand.{Operand, mantissa, lastWeight, WellFormed}
 use Rattle.rounding.specs.Mode.{Mode}
 use Rattle.rounding.specs.Sum.{scale}
 use Rattle.depth.specs.Columns.{topExponent}
 use Rattle.depth.specs.Read.{unread}
 use Rattle.depth.specs.Depth.{plus, Fixed}
-use Rattle.depth.specs.Decide.{some?, reaches?, readDigits, beyond, holeBySize, decideAt}
+use Rattle.decide.specs.Decide.{some?, reaches?, readDigits, beyond, holeBySize, decideAt}
 use Rattle.depth.proofs.Place.{other-top}
-use Rattle.depth.proofs.Beyond.{digits-are}
-use Rattle.depth.proofs.Decision.{reached, not-reaching, decides-fixed}
+use Rattle.decide.proofs.Beyond.{digits-are}
+use Rattle.decide.proofs.Decision.{reached, not-reaching, decides-fixed}
 
 -- after k columns
 pub record InHole (x y : Operand) (k : ℕ) : Type 0 where

@@ -16,10 +16,10 @@ use Rattle.number.specs.Limits.{leastExponent, mostExponent}
 use Rattle.rounding.specs.Select.{chosen, onGrid}
 use Rattle.rounding.proofs.Between.{between}
 use Rattle.rounding.proofs.Scale.{digits-shift}
-use Rattle.depth.specs.Decide.{lean, step, bump, carry, enough, settled, settledAnswer, large?, small?, decided, decidedAnswer}
-use Rattle.depth.proofs.Settled.{Span, Enough, enough-true, enough-le, and-true, settled-if, chosen-least, tern-least}
-use Rattle.depth.proofs.Carry.{size-enough, size-quot, size-pow, size-pos, size-suc}
-use Rattle.depth.proofs.Range.{Sides, alike-same, large-is, small-is, large-answer, small-answer, decided-if}
+use Rattle.decide.specs.Decide.{lean, step, bump, carry, enough, settled, settledAnswer, large?, small?, decided, decidedAnswer}
+use Rattle.decide.proofs.Settled.{Span, Enough, enough-true, enough-le, and-true, settled-if, chosen-least, tern-least}
+use Rattle.decide.proofs.Carry.{size-enough, size-quot, size-pow, size-pos, size-suc}
+use Rattle.decide.proofs.Range.{Sides, alike-same, large-is, small-is, large-answer, small-answer, decided-if}
 
 -- ---- the digits of q, or of q + 1
 

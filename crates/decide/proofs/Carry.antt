@@ -17,9 +17,9 @@ use Rattle.rounding.proofs.Selection.{Rep, full, chosen-mono, under-le}
 use Rattle.rounding.proofs.Order.{le-or-lt, Cmp, cmp, compare-at, size-mono}
 use Rattle.rounding.proofs.Even.{size-is, size-ge}
 use Rattle.rounding.proofs.Scale.{exact, size-shift, chosen-shift}
-use Rattle.depth.specs.Decide.{tie, off, lean, step, enough, bump, carry, shortLeast, shortMost}
-use Rattle.depth.proofs.Lean.{zero-or, Part, Halves, lean-exact, lean-rest, quot-lean, tern-lean}
-use Rattle.depth.proofs.Settled.{Enough, enough-le, halves, part-lt, size-part, unit-part, chosen-at, chosen-cut}
+use Rattle.decide.specs.Decide.{tie, off, lean, step, enough, bump, carry, shortLeast, shortMost}
+use Rattle.decide.proofs.Lean.{zero-or, Part, Halves, lean-exact, lean-rest, quot-lean, tern-lean}
+use Rattle.decide.proofs.Settled.{Enough, enough-le, halves, part-lt, size-part, unit-part, chosen-at, chosen-cut}
 
 -- ---- q has p digits
 

@@ -15,22 +15,22 @@ use Rattle.rounding.specs.Sum.{scale, amount, zeroSign, add}
 use Rattle.rounding.proofs.Order.{le-or-lt, Cmp, cmp}
 use Rattle.rounding.proofs.Selection.{Rep}
 use Rattle.rounding.proofs.Ends.{plus as positive, minus as negative}
 use Rattle.depth.specs.Columns.{topExponent}
 use Rattle.depth.specs.Read.{unread}
 use Rattle.depth.specs.Depth.{plus, result, Fixed}
-use Rattle.depth.specs.Decide.{reaches?, readPart, leftOver}
+use Rattle.decide.specs.Decide.{reaches?, readPart, leftOver}
 use Rattle.depth.proofs.Columns.{digits-counted}
 use Rattle.depth.proofs.Place.{top-swap, top-first, top-second, scale-first, scale-second, other-top}
 use Rattle.depth.proofs.Reach.{end, digitsAt, at-most}
 use Rattle.depth.proofs.Amounts.{amount-end}
 use Rattle.depth.proofs.EndsDecide.{like-first, like-second, lx, ly, up, down, add-is}
-use Rattle.depth.proofs.Settled.{Alike, rep-between}
-use Rattle.depth.proofs.Range.{large-answer, small-answer, same-cases}
-use Rattle.depth.proofs.Rows.{Seen, last-half}
-use Rattle.depth.proofs.RowsFar.{Unseen}
-use Rattle.depth.proofs.Pair.{Ends, Pair}
-use Rattle.depth.proofs.ReadPart.{unseen-cut, unseen-is}
-use Rattle.depth.proofs.Decision.{reached, ReadIn, read-in, not-reached, left-is, read-nil, Shown, ShownBy, shown, fixed-amounts}
+use Rattle.decide.proofs.Settled.{Alike, rep-between}
+use Rattle.decide.proofs.Range.{large-answer, small-answer, same-cases}
+use Rattle.decide.proofs.Rows.{Seen, last-half}
+use Rattle.decide.proofs.RowsFar.{Unseen}
+use Rattle.decide.proofs.Pair.{Ends, Pair}
+use Rattle.decide.proofs.ReadPart.{unseen-cut, unseen-is}
+use Rattle.decide.proofs.Decision.{reached, ReadIn, read-in, not-reached, left-is, read-nil, Shown, ShownBy, shown, fixed-amounts}
 
 -- neither refusal
 pub record Accepted (a : Answer) : Type 0 where

@@ -9,20 +9,20 @@ use lib.Pow.{pow-pos, pow-mono, pow-add}
 use lib.Ieee.{size}
 use Rattle.number.specs.Operand.{Operand, mantissa, lastWeight, WellFormed}
 use Rattle.rounding.specs.Sum.{amount}
 use Rattle.depth.specs.Read.{unread}
 use Rattle.rounding.proofs.Order.{le-or-lt}
 use Rattle.rounding.proofs.Selection.{multiple}
 use Rattle.rounding.proofs.Even.{size-is}
 use Rattle.rounding.proofs.Scale.{size-shift}
 use Rattle.number.proofs.Digits.{mantissa-lt, precision-two}
 use Rattle.depth.proofs.Columns.{digits-counted}
 use Rattle.depth.proofs.Reach.{base, digitsAt, end, at-least, at-most}
 use Rattle.depth.proofs.Amounts.{amount-end, amount-nil, like-end}
 use Rattle.depth.proofs.Meet.{at-cut, base-grid, low-grid}
-use Rattle.depth.proofs.Lean.{zero-or}
-use Rattle.depth.proofs.Carry.{size-pos}
-use Rattle.depth.proofs.Rows.{Seen, Held}
-use Rattle.depth.proofs.RowsFar.{Unseen}
+use Rattle.decide.proofs.Lean.{zero-or}
+use Rattle.decide.proofs.Carry.{size-pos}
+use Rattle.decide.proofs.Rows.{Seen, Held}
+use Rattle.decide.proofs.RowsFar.{Unseen}
 
 -- a number of p digits, counted in another unit, has the exponent that it had
 module _ (x : Operand) (g : WellFormed x) (r : x .isZero ≡ false) (s : ℕ) (sc : s ≤ lastWeight x) where

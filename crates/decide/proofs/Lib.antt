@@ -1,0 +1,17 @@
+pub mod Lean
+pub mod Settled
+pub mod Carry
+pub mod Short
+pub mod Range
+pub mod Answered
+pub mod Rows
+pub mod RowsFar
+pub mod Pair
+pub mod HoleTest
+pub mod ReadPart
+pub mod Beyond
+pub mod Decision
+pub mod Covered
+pub mod HoleVerdict
+pub mod Examples
+pub mod Theorems
