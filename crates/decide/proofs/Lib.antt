@@ -1,3 +1,4 @@
+pub mod Corners
 pub mod Lean
 pub mod Settled
 pub mod Carry

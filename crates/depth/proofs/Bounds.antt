@@ -9,12 +9,13 @@ use borrow.Author.Tests.{leb-true, leb-false}
 use lib.Dec.{leb}
 use Rattle.number.specs.Limits.{mostPrecision}
 use Rattle.number.specs.Operand.{Operand, lastWeight, WellFormed}
+use Rattle.number.proofs.Limits.{two-digits, precisions-some}
 use Rattle.number.proofs.Digits.{precision-two}
 use Rattle.rounding.specs.Mode.{Mode}
 use Rattle.rounding.proofs.Order.{le-or-lt}
 use Rattle.depth.specs.Columns.{topExponent, Like}
 use Rattle.depth.specs.Depth.{plus, result, Fixed}
-use Rattle.depth.specs.Bound.{columnsFor, boundOf, bound, deepest}
+use Rattle.depth.specs.Bound.{columnsFor, farColumns, boundOf, bound, deepest}
 use Rattle.depth.proofs.Place.{fixed-swap}
 use Rattle.depth.proofs.AllRead.{all-read, read-fixed}
 use Rattle.depth.proofs.Far.{far-fixed}
@@ -33,39 +34,65 @@ columns-some : (n : ℕ) → 1 ≤ n → 1 ≤ columnsFor n
 unfolding columnsFor
 columns-some n h = omega arith
 
+-- ---- and those that hold m digits and p + 2
+
+far-first : (p m : ℕ) → m ≤ 64 * farColumns p m
+unfolding farColumns
+far-first p m = le-trans (left m (p + 2)) (holds (max m (p + 2)))
+  where
+    left : (a b : ℕ) → a ≤ max a b
+    left a b = omega arith
+
+far-target : (p m : ℕ) → p + 2 ≤ 64 * farColumns p m
+unfolding farColumns columnsFor
+far-target p m = omega arith
+
+far-some : (p m : ℕ) → 1 ≤ farColumns p m
+far-some p m = some (farColumns p m) (far-target p m)
+  where
+    some : (k : ℕ) → p + 2 ≤ 64 * k → 1 ≤ k
+    some k h = omega arith
+
+far-mono : (p m q n : ℕ) → p ≤ q → m ≤ n → farColumns p m ≤ farColumns q n
+unfolding farColumns
+far-mono p m q n h k = columns-mono (max m (p + 2)) (max n (q + 2)) (both h k)
+  where
+    both : p ≤ q → m ≤ n → max m (p + 2) ≤ max n (q + 2)
+    both h k = omega arith
+
 boundOf-some : (p m n d : ℕ) → 1 ≤ m → 1 ≤ boundOf p m n d
 unfolding boundOf
-boundOf-some p m n d M = go (leb (64 * columnsFor (max m (p + 2))) d)
+boundOf-some p m n d M = go (leb (64 * farColumns p m) d)
   where
     one : (v : ℕ) → 1 ≤ max m v
     one v = omega arith
 
-    go : (b : Bool) → 1 ≤ cond b (columnsFor (max m (p + 2))) (columnsFor (max m (d + n)))
-    go true = columns-some (max m (p + 2)) (one (p + 2))
+    go : (b : Bool) → 1 ≤ cond b (farColumns p m) (columnsFor (max m (d + n)))
+    go true = far-some p m
     go false = columns-some (max m (d + n)) (one (d + n))
 
 boundOf-most : (p m n d : ℕ) → p ≤ mostPrecision → m ≤ mostPrecision → n ≤ mostPrecision → boundOf p m n d ≤ deepest
 unfolding boundOf deepest
-boundOf-most p m n d P M N = go (leb (64 * k) d) refl
+boundOf-most p m n d P M N = go (leb (64 * farColumns p m) d) refl
   where
-    k : ℕ
-    k = columnsFor (max m (p + 2))
-
     top : ℕ
-    top = columnsFor (mostPrecision + 2)
+    top = farColumns mostPrecision mostPrecision
 
-    within : k ≤ top
-    within = columns-mono (max m (p + 2)) (mostPrecision + 2) (both m p P M)
-      where
-        both : (m p : ℕ) → p ≤ mostPrecision → m ≤ mostPrecision → max m (p + 2) ≤ mostPrecision + 2
-        both m p a b = omega arith
+    within : farColumns p m ≤ top
+    within = far-mono p m mostPrecision mostPrecision P M
 
-    go : (b : Bool) → leb (64 * k) d ≡ b → cond b k (columnsFor (max m (d + n))) ≤ columnsFor (64 * top - 1 + mostPrecision)
-    go true e = le-trans within (columns-mono (mostPrecision + 2) (64 * top - 1 + mostPrecision) (more (holds (mostPrecision + 2)) M))
+    go : (b : Bool) → leb (64 * farColumns p m) d ≡ b → cond b (farColumns p m) (columnsFor (max m (d + n))) ≤ columnsFor (64 * top - 1 + mostPrecision)
+    go true e = le-trans within (le-trans (self top) (columns-mono (64 * top) (64 * top - 1 + mostPrecision) (more top (far-target mostPrecision mostPrecision))))
       where
-        more : mostPrecision + 2 ≤ 64 * top → m ≤ mostPrecision → mostPrecision + 2 ≤ 64 * top - 1 + mostPrecision
-        more h l = omega arith
-    go false e = columns-mono (max m (d + n)) (64 * top - 1 + mostPrecision) (less k top within (leb-false _ _ e) M N)
+        self : (k : ℕ) → k ≤ columnsFor (64 * k)
+        self k = unfold columnsFor in omega arith
+
+        more : (t : ℕ) → mostPrecision + 2 ≤ 64 * t → 64 * t ≤ 64 * t - 1 + mostPrecision
+        more t h = omega (arith, some)
+          where
+            some : 1 ≤ mostPrecision
+            some = le-trans (omega arith) (le-trans two-digits precisions-some)
+    go false e = columns-mono (max m (d + n)) (64 * top - 1 + mostPrecision) (less (farColumns p m) top within (leb-false _ _ e) M N)
       where
         less : (c t : ℕ) → c ≤ t → d < 64 * c → m ≤ mostPrecision → n ≤ mostPrecision → max m (d + n) ≤ 64 * t - 1 + mostPrecision
         less c t h l a b = omega arith
@@ -89,20 +116,11 @@ module _ (o : Mode) (p : ℕ) (P : 0 < p) (x y : Operand) (g : WellFormed x) (h 
       go : (a b : ℕ) → b ≤ a → max a b ≡ a
       go a b h = omega arith
 
-  far : 64 * columnsFor (max m (p + 2)) ≤ d → Fixed plus o p x y (columnsFor (max m (p + 2)))
-  far u = far-fixed o p P x y g h r q (columnsFor (max m (p + 2))) (columns-some (max m (p + 2)) (one m)) (gap (columnsFor (max m (p + 2))) (x .exponent) (y .exponent) larger u) (first m (p + 2) (holds (max m (p + 2)))) (second m (p + 2) (holds (max m (p + 2))))
+  far : 64 * farColumns p m ≤ d → Fixed plus o p x y (farColumns p m)
+  far u = far-fixed o p P x y g h r q (farColumns p m) (far-some p m) (gap (farColumns p m) (x .exponent) (y .exponent) larger u) (far-first p m) (far-target p m)
     where
-      one : (m : ℕ) → 1 ≤ max m (p + 2)
-      one m = omega arith
-
       gap : (k a b : ℕ) → b ≤ a → 64 * k ≤ a - b → 64 * k + b ≤ a
       gap k a b h u = omega arith
-
-      first : (a b : ℕ) {c : ℕ} → max a b ≤ c → a ≤ c
-      first a b h = omega arith
-
-      second : (a b : ℕ) {c : ℕ} → max a b ≤ c → b ≤ c
-      second a b h = omega arith
 
   near : Fixed plus o p x y (columnsFor (max m (d + n)))
   near = read-fixed o p x y g h k (λ e. all-read x (topExponent x y) k (rw top (first (x .exponent) m (d + n) (holds (max m (d + n)))))) (λ e. all-read y (topExponent x y) k (rw top (second m d n (holds (max m (d + n))))))
@@ -118,9 +136,9 @@ module _ (o : Mode) (p : ℕ) (P : 0 < p) (x y : Operand) (g : WellFormed x) (h 
 
   pub larger-fixed : Fixed plus o p x y (boundOf p m n d)
   unfolding boundOf
-  larger-fixed = go (leb (64 * columnsFor (max m (p + 2))) d) refl
+  larger-fixed = go (leb (64 * farColumns p m) d) refl
     where
-      go : (b : Bool) → leb (64 * columnsFor (max m (p + 2))) d ≡ b → Fixed plus o p x y (cond b (columnsFor (max m (p + 2))) (columnsFor (max m (d + n))))
+      go : (b : Bool) → leb (64 * farColumns p m) d ≡ b → Fixed plus o p x y (cond b (farColumns p m) (columnsFor (max m (d + n))))
       go true e = far (leb-true _ _ e)
       go false e = near
 
@@ -149,7 +167,7 @@ module _ (p : ℕ) (x y : Operand) (g : WellFormed x) (h : WellFormed y) where
   bound-most P = go (x .isZero) (y .isZero) (leb (y .exponent) (x .exponent))
     where
       alone : (m : ℕ) → m ≤ mostPrecision → columnsFor m ≤ deepest
-      alone m M = unfold deepest in columns-mono m (64 * columnsFor (mostPrecision + 2) - 1 + mostPrecision) (more (columnsFor (mostPrecision + 2)) M)
+      alone m M = unfold deepest in columns-mono m (64 * farColumns mostPrecision mostPrecision - 1 + mostPrecision) (more (farColumns mostPrecision mostPrecision) M)
         where
           more : (c : ℕ) → m ≤ mostPrecision → m ≤ 64 * c - 1 + mostPrecision
           more c M = omega arith
@@ -190,5 +208,5 @@ module _ (p : ℕ) (x y : Operand) (g : WellFormed x) (h : WellFormed y) where
 
 -- with today's limits
 pub deepest-today : deepest ≡ 129
-unfolding deepest columnsFor mostPrecision
+unfolding deepest farColumns columnsFor mostPrecision
 deepest-today = refl

@@ -9,12 +9,13 @@ use Rattle.number.specs.Operand.{Operand}
 unfoldable pub columnsFor : ℕ → ℕ
 columnsFor n = (n + 63) / 64
 
--- "With d the exponent difference and k = ceil(max(m, p+2)/64), m the precision of the larger-exponent operand, d ≥ 64k gives depth at most k.
--- Otherwise it is at most ceil(max(m, d+n)/64), with n the other's precision."
+-- "k = ceil(max(m, p+2)/64), m the precision of the larger-exponent operand"
+unfoldable pub farColumns : ℕ → ℕ → ℕ
+farColumns p m = columnsFor (max m (p + 2))
+
+-- "With d the exponent difference .. d ≥ 64k gives depth at most k. Otherwise it is at most ceil(max(m, d+n)/64), with n the other's precision."
 unfoldable pub boundOf : ℕ → ℕ → ℕ → ℕ → ℕ
-boundOf p m n d =
-    let k = columnsFor (max m (p + 2)) in
-    cond (leb (64 * k) d) k (columnsFor (max m (d + n)))
+boundOf p m n d = cond (leb (64 * farColumns p m) d) (farColumns p m) (columnsFor (max m (d + n)))
 
 -- "With a zero operand it is at most ceil(m/64)."
 unfoldable pub bound : ℕ → Operand → Operand → ℕ
@@ -27,4 +28,4 @@ bound p x y =
 
 -- the most that `bound` can be: d is one less than 64k, and m, n and p are the largest precision
 unfoldable pub deepest : ℕ
-deepest = columnsFor (64 * columnsFor (mostPrecision + 2) - 1 + mostPrecision)
+deepest = columnsFor (64 * farColumns mostPrecision mostPrecision - 1 + mostPrecision)
