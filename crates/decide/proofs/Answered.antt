@@ -1,22 +1,20 @@
 -- Once k columns settle it, what is read gives the answer: of the least sum, of the greatest, and of every sum between.
-use mathlib.Core.Path.{_≡_, refl, sym, ap, _∙_, subst}
-use mathlib.Core.Logic.{_⊎_, inl, inr}
-use mathlib.Core.Bool.{Bool, true, false, cond, _&&_, _||_}
-use Prim.Native.Nat.{ℕ, zero, suc, _+_, _-_, _*_, _/_, _%_, _^_, _≤_, _<_, compare, Ordering, Ordering·lt, Ordering·eq, Ordering·gt}
-use native.Mathlib.Nat.{le-refl, le-trans, le-of-eq, le-of-lt, le-antisymm, mul-comm, mul-div-cancel, pow-succ', mul-assoc}
+use mathlib.Core.Path.{_≡_, refl, sym, ap, _∙_}
+use mathlib.Core.Bool.{Bool, true, false, cond, _||_}
+use Prim.Native.Nat.{ℕ, zero, suc, _+_, _-_, _*_, _/_, _%_, _^_, _≤_, _<_, Ordering, Ordering·lt, Ordering·eq, Ordering·gt}
+use native.Mathlib.Nat.{le-trans, le-of-eq, le-of-lt, mul-div-cancel}
 use native.Mathlib.Omega.{arith}
 use borrow.Author.Tests.{eqb-true, eqb-false, ltb-true}
 use lib.Dec.{eqb, ltb}
 use lib.Pow.{pow-pos, pow-add}
 use lib.Ieee.{size}
-use lib.Ieee.Digits.{size-lt}
-use Rattle.rounding.specs.Mode.{Way, near, under, over}
-use Rattle.rounding.specs.Answer.{Answer, tooLarge, tooSmall, rounded, ranged, number, digits, signed}
+use Rattle.rounding.specs.Mode.{Way}
+use Rattle.rounding.specs.Answer.{tooLarge, tooSmall, rounded, digits}
 use Rattle.number.specs.Limits.{leastExponent, mostExponent}
-use Rattle.rounding.specs.Select.{chosen, onGrid}
+use Rattle.rounding.specs.Select.{chosen}
 use Rattle.rounding.proofs.Between.{between}
 use Rattle.rounding.proofs.Scale.{digits-shift}
-use Rattle.decide.specs.Decide.{lean, step, bump, carry, enough, settled, settledAnswer, large?, small?, decided, decidedAnswer}
+use Rattle.decide.specs.Decide.{lean, step, carry, enough, settled, settledAnswer, large?, small?, decided, decidedAnswer}
 use Rattle.decide.proofs.Settled.{Span, Enough, enough-true, enough-le, and-true, settled-if, chosen-least, tern-least}
 use Rattle.decide.proofs.Carry.{size-enough, size-quot, size-pow, size-pos, size-suc}
 use Rattle.decide.proofs.Range.{Sides, alike-same, large-is, small-is, large-answer, small-answer, decided-if}

@@ -1,9 +1,8 @@
 -- Nothing of y is read: the decision on the operands.
 use mathlib.Core.Path.{_≡_, refl, sym, ap, _∙_, subst}
-use mathlib.Core.Logic.{_⊎_, inl, inr}
-use mathlib.Core.Bool.{Bool, true, false, not, cond}
-use Prim.Native.Nat.{ℕ, zero, suc, _+_, _-_, _*_, _/_, _%_, _^_, _≤_, _<_, max}
-use native.Mathlib.Nat.{le-refl, le-trans, le-of-eq, lt-of-lt-of-le, lt-of-le-of-lt, mul-le-mul-right, mul-one, div-one, pow-succ'}
+use mathlib.Core.Bool.{Bool, true, false, cond}
+use Prim.Native.Nat.{ℕ, zero, suc, _+_, _-_, _*_, _/_, _^_, _≤_, _<_}
+use native.Mathlib.Nat.{le-trans, le-of-eq, lt-of-lt-of-le, mul-le-mul-right, mul-one, div-one, pow-succ'}
 use native.Mathlib.Omega.{arith}
 use lib.Pow.{pow-pos, pow-mono}
 use lib.Ieee.{size}
@@ -11,16 +10,14 @@ use Rattle.number.specs.Operand.{Operand, mantissa, lastWeight, WellFormed}
 use Rattle.rounding.specs.Mode.{Mode}
 use Rattle.rounding.specs.Sum.{amount}
 use Rattle.depth.specs.Read.{unread}
-use Rattle.number.specs.Limits.{leastExponent, mostExponent}
+use Rattle.number.specs.Limits.{leastExponent}
 use Rattle.rounding.proofs.Selection.{multiple}
 use Rattle.number.proofs.Digits.{mantissa-lt, mantissa-ge, precision-two}
-use Rattle.depth.proofs.Columns.{digits-counted}
 use Rattle.depth.proofs.Reach.{digitsAt, end}
 use Rattle.depth.proofs.Amounts.{amount-end}
 use Rattle.depth.proofs.Meet.{least-is}
 use Rattle.decide.specs.Decide.{some?, readDigits, readPart, beyond, farPair, holePair, holeBySize}
 use Rattle.decide.proofs.Rows.{Seen, Held}
-use Rattle.decide.proofs.RowsFar.{Unseen}
 use Rattle.decide.proofs.Pair.{Decides, Pair, seen-read, far-pair, hole-pair}
 use Rattle.decide.proofs.HoleTest.{hole-pair-is}
 use Rattle.decide.proofs.ReadPart.{counted, held, seen-is, seen-held, seen-pos, unseen-first, unseen-below, unseen-cut, unseen-is}

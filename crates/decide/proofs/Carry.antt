@@ -1,25 +1,24 @@
 -- How many digits the selected number has, from what is read.
 use mathlib.Core.Path.{_≡_, refl, sym, ap, _∙_, subst}
 use mathlib.Core.Logic.{_⊎_, inl, inr}
-use mathlib.Core.Bool.{Bool, true, false, not, cond, _&&_}
-use Prim.Native.Nat.{ℕ, zero, suc, _+_, _-_, _*_, _/_, _%_, _^_, _≤_, _<_, compare, Ordering, Ordering·lt, Ordering·eq, Ordering·gt}
-use native.Mathlib.Nat.{le-refl, le-trans, le-of-eq, le-of-lt, lt-of-lt-of-le, lt-of-le-of-lt, le-antisymm, suc-mul, mul-assoc, mul-le-mul-right, add-mul, div-add-mod', mod-lt, pow-succ', le-div-iff-mul-le}
+use mathlib.Core.Bool.{Bool, cond}
+use Prim.Native.Nat.{ℕ, suc, _+_, _-_, _*_, _/_, _%_, _^_, _≤_, _<_, Ordering, Ordering·lt, Ordering·eq, Ordering·gt}
+use native.Mathlib.Nat.{le-refl, le-trans, le-of-eq, lt-of-lt-of-le, le-antisymm, div-add-mod', mod-lt, pow-succ', le-div-iff-mul-le}
 use native.Mathlib.Omega.{arith}
-use borrow.Author.Tests.{eq-eqb, ne-eqb, ltb-true, lt-ltb, le-ltb}
-use lib.Dec.{ltb, leb, eqb}
-use lib.Pow.{pow-pos, pow-mono, pow-add}
+use borrow.Author.Tests.{eq-eqb, ne-eqb}
+use lib.Dec.{eqb}
+use lib.Pow.{pow-pos, pow-add}
 use lib.Ieee.{size}
 use lib.Ieee.Digits.{size-lt, size-le, size-reaches}
 use lib.Ieee.Fits.{kept-lt}
-use Rattle.rounding.specs.Mode.{Way, near, under, over}
-use Rattle.rounding.specs.Select.{quotient, unit, chosen, onGrid}
-use Rattle.rounding.proofs.Selection.{Rep, full, chosen-mono, under-le}
-use Rattle.rounding.proofs.Order.{le-or-lt, Cmp, cmp, compare-at, size-mono}
+use Rattle.rounding.specs.Mode.{Way}
+use Rattle.rounding.specs.Select.{chosen}
+use Rattle.rounding.proofs.Order.{le-or-lt, size-mono}
 use Rattle.rounding.proofs.Even.{size-is, size-ge}
-use Rattle.rounding.proofs.Scale.{exact, size-shift, chosen-shift}
-use Rattle.decide.specs.Decide.{tie, off, lean, step, enough, bump, carry, shortLeast, shortMost}
-use Rattle.decide.proofs.Lean.{zero-or, Part, Halves, lean-exact, lean-rest, quot-lean, tern-lean}
-use Rattle.decide.proofs.Settled.{Enough, enough-le, halves, part-lt, size-part, unit-part, chosen-at, chosen-cut}
+use Rattle.rounding.proofs.Scale.{size-shift}
+use Rattle.decide.specs.Decide.{lean, step, bump, carry}
+use Rattle.decide.proofs.Lean.{zero-or, Part}
+use Rattle.decide.proofs.Settled.{Enough, enough-le, halves, chosen-cut}
 
 -- ---- q has p digits
 

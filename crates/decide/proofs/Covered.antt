@@ -1,14 +1,13 @@
 -- A fixed k covers the target, 64k ≥ p, unless the answer is a refusal, all is read, or a hole lies between the operands:
 -- so the columns down to p are needed in any case. For else some p-digit number lies between the ends.
 use mathlib.Core.Path.{_≡_, refl, sym, ap, _∙_, subst}
-use mathlib.Core.Logic.{_⊎_, inl, inr}
+use mathlib.Core.Logic.{inl, inr}
 use mathlib.Core.Bool.{Bool, true, false}
-use Prim.Native.Nat.{ℕ, zero, suc, _+_, _-_, _*_, _/_, _^_, _≤_, _<_, compare, Ordering, Ordering·lt, Ordering·eq, Ordering·gt}
-use native.Mathlib.Nat.{le-refl, le-trans, le-of-eq, le-of-lt, lt-of-lt-of-le, lt-of-le-of-lt, lt-of-mul-lt-mul-right, mul-lt-mul-of-pos-right, mul-le-mul-right, mul-comm, mul-sub, mul-assoc, pow-succ', add-comm, add-mul, suc-mul, zero-mul}
+use Prim.Native.Nat.{ℕ, zero, suc, _+_, _-_, _*_, _^_, _≤_, _<_, compare, Ordering, Ordering·lt, Ordering·eq, Ordering·gt}
+use native.Mathlib.Nat.{le-trans, le-of-eq, le-of-lt, lt-of-lt-of-le, lt-of-le-of-lt, lt-of-mul-lt-mul-right, mul-lt-mul-of-pos-right, mul-le-mul-right, mul-comm, mul-sub, mul-assoc, pow-succ', add-comm, add-mul}
 use native.Mathlib.Omega.{arith}
 use lib.Pow.{pow-pos, pow-mono, pow-add}
-use Rattle.number.specs.Operand.{Operand, mantissa, lastWeight, WellFormed}
-use Rattle.number.proofs.Digits.{mantissa-lt, precision-two}
+use Rattle.number.specs.Operand.{Operand, lastWeight, WellFormed}
 use Rattle.rounding.specs.Mode.{Mode, Way, way}
 use Rattle.rounding.specs.Answer.{Answer, tooLarge, tooSmall, rounded, answer}
 use Rattle.rounding.specs.Sum.{scale, amount, zeroSign, add}
@@ -21,16 +20,16 @@ use Rattle.depth.specs.Depth.{plus, result, Fixed}
 use Rattle.decide.specs.Decide.{reaches?, readPart, leftOver}
 use Rattle.depth.proofs.Columns.{digits-counted}
 use Rattle.depth.proofs.Place.{top-swap, top-first, top-second, scale-first, scale-second, other-top}
-use Rattle.depth.proofs.Reach.{end, digitsAt, at-most}
+use Rattle.depth.proofs.Reach.{end, at-most}
 use Rattle.depth.proofs.Amounts.{amount-end}
 use Rattle.depth.proofs.EndsDecide.{like-first, like-second, lx, ly, up, down, add-is}
-use Rattle.decide.proofs.Settled.{Alike, rep-between}
+use Rattle.decide.proofs.Settled.{rep-between}
 use Rattle.decide.proofs.Range.{large-answer, small-answer, same-cases}
-use Rattle.decide.proofs.Rows.{Seen, last-half}
+use Rattle.decide.proofs.Rows.{Seen, seen-le, last-half}
 use Rattle.decide.proofs.RowsFar.{Unseen}
 use Rattle.decide.proofs.Pair.{Ends, Pair}
 use Rattle.decide.proofs.ReadPart.{unseen-cut, unseen-is}
-use Rattle.decide.proofs.Decision.{reached, ReadIn, read-in, not-reached, left-is, read-nil, Shown, ShownBy, shown, fixed-amounts}
+use Rattle.decide.proofs.Decision.{reached, ReadIn, read-in, not-reached, left-is, read-nil, ShownBy, shown, fixed-amounts}
 
 -- neither refusal
 pub record Accepted (a : Answer) : Type 0 where
@@ -106,12 +105,6 @@ few p c j n h l = record { digits = n; shift = j; few = lt-of-lt-of-le l (le-tra
   where
     twice : (v : ℕ) {w : ℕ} → w ≡ 2 * v → v * 2 ≡ w
     twice v e = omega arith
-
-seen-le : (j x u xl xh : ℕ) → Seen j x u xl xh → xl ≤ xh
-seen-le j x u xl xh a = omega (arith, a .low, a .high, pow-mono (go (a .l) (a .cut)))
-  where
-    go : (l : ℕ) → l + u ≡ j → l ≤ j
-    go l e = omega arith
 
 -- an unread digit is half a unit
 seen-half : (j x u xl xh : ℕ) → Seen j x (suc u) xl xh → xl * 2 + 2 ^ j ≤ xh * 2

@@ -2,15 +2,14 @@
 use mathlib.Core.Path.{_≡_, refl, sym, ap, _∙_, subst}
 use mathlib.Core.Logic.{_⊎_, inl, inr}
 use mathlib.Core.Bool.{Bool, true, false, not, cond, _&&_, _||_, true≢false}
-use Prim.Native.Nat.{ℕ, zero, suc, _+_, _-_, _*_, _/_, _%_, _^_, _≤_, _<_, min, max, compare}
-use native.Mathlib.Nat.{le-refl, le-trans, le-of-eq, add-comm, zero-mul}
+use Prim.Native.Nat.{ℕ, _+_, _-_, _*_, _/_, _^_, _≤_, _<_}
+use native.Mathlib.Nat.{add-comm, zero-mul}
 use native.Mathlib.Omega.{arith}
 use borrow.Author.Tests.{ltb-true, ltb-false, lt-ltb, le-ltb}
 use lib.Dec.{ltb}
 use Rattle.number.specs.Operand.{Operand, mantissa, lastWeight, WellFormed}
 use Rattle.rounding.specs.Mode.{Mode}
 use Rattle.rounding.specs.Sum.{scale, share, amount, zeroSign}
-use Rattle.rounding.specs.Answer.{answer}
 use Rattle.depth.specs.Columns.{topExponent, Like}
 use Rattle.depth.specs.Read.{unread}
 use Rattle.depth.specs.Depth.{plus, Fixed, Open, Deciding}
@@ -63,7 +62,7 @@ pub read-nil : (t k s : ℕ) (z : Operand) → z .isZero ≡ true → readPart t
 unfolding readPart
 read-nil t k s z e = ap (λ (n : ℕ). n * 2 ^ (unread t k z + (lastWeight z - s) - (t - 64 * k - s))) (digits-nil t k z e) ∙ zero-mul _
 
-pub left-nil : (t k : ℕ) (z : Operand) → z .isZero ≡ true → leftOver t k z ≡ 0
+left-nil : (t k : ℕ) (z : Operand) → z .isZero ≡ true → leftOver t k z ≡ 0
 unfolding leftOver
 left-nil t k z e = rw e
 

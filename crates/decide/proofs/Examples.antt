@@ -1,17 +1,16 @@
 -- Document 01's depths: its example, and marked sums 10 and 13.
-use Prim.Native.Nat.{ℕ, zero, suc, _+_, _-_, _*_, _%_, _^_, _≤_, _<_, compare}
-use mathlib.Core.Path.{_≡_, refl, sym, ap, _∙_}
-use mathlib.Core.Bool.{Bool, true, false, true≢false}
-use mathlib.Core.List.{List, [], _∷_}
+use Prim.Native.Nat.{ℕ, zero, suc, _+_, _-_, _^_, _≤_, _<_, compare}
+use mathlib.Core.Path.{_≡_, refl, sym, _∙_}
+use mathlib.Core.Bool.{true, false, true≢false}
+use mathlib.Core.List.{[], _∷_}
 use native.Mathlib.Omega.{arith}
 use lib.Dec.{lit≤, lit<}
-use lib.ListN.{length, getD}
 use lib.Ieee.{size}
 use lib.Pow.{pow-pos, pow-lt}
-use Rattle.limb.specs.Value.{valueIn, valueOf, Below}
+use Rattle.limb.specs.Value.{valueIn, Below}
 use Rattle.number.specs.Limits.{leastPrecision, mostPrecision, bias, leastExponent, mostExponent, limbsFor}
-use Rattle.number.specs.Operand.{Operand, spareBits, mantissa, lastWeight, WellFormed}
-use Rattle.rounding.specs.Mode.{Mode, nearest, upward, downward, Way, way}
+use Rattle.number.specs.Operand.{spareBits, mantissa, lastWeight, WellFormed}
+use Rattle.rounding.specs.Mode.{Mode, nearest, upward, Way, way}
 use Rattle.rounding.specs.Select.{chosen}
 use Rattle.rounding.specs.Answer.{tooLarge, number, digits, signed, rounded, answer}
 use Rattle.rounding.specs.Sum.{scale, amount, share, zeroSign, sumAt, add}

@@ -3,16 +3,16 @@ use mathlib.Core.Path.{_≡_, refl, sym, ap, _∙_, subst}
 use mathlib.Core.Logic.{_⊎_, inl, inr}
 use mathlib.Core.Bool.{Bool, true, false, not, cond, _&&_, _||_, Bool·beq}
 use Prim.Native.Nat.{ℕ, zero, suc, _+_, _-_, _*_, _/_, _%_, _^_, _≤_, _<_, compare, Ordering, Ordering·lt, Ordering·eq, Ordering·gt}
-use native.Mathlib.Nat.{le-refl, le-trans, le-of-eq, le-antisymm, lt-of-lt-of-le, div-add-mod', mod-lt, pow-succ', div-one, mul-one, mul-pos, suc-mul, mul-le-mul, mul-le-mul-right, mul-lt-mul-of-pos-right}
+use native.Mathlib.Nat.{le-trans, le-of-eq, le-antisymm, lt-of-lt-of-le, div-add-mod', mod-lt, pow-succ', div-one, mul-one, mul-pos, suc-mul, mul-le-mul, mul-le-mul-right, mul-lt-mul-of-pos-right}
 use native.Mathlib.Omega.{arith}
 use borrow.Author.Tests.{lt-ltb, le-ltb, le-leb, lt-leb, eq-eqb, ne-eqb}
-use lib.Dec.{ltb, leb, eqb}
+use lib.Dec.{ltb, eqb}
 use lib.Pow.{pow-pos, pow-add}
 use lib.Ieee.{size}
 use lib.Ieee.Digits.{size-lt, size-reaches}
 use Rattle.rounding.specs.Mode.{Mode, way, Way, near, under, over}
 use Rattle.number.specs.Limits.{leastExponent, mostExponent}
-use Rattle.rounding.proofs.Order.{le-or-lt, Cmp, cmp, compare-at, size-mono}
+use Rattle.rounding.proofs.Order.{le-or-lt, cmp, compare-at, size-mono}
 use Rattle.rounding.proofs.Even.{size-is}
 use Rattle.rounding.proofs.Scale.{size-shift}
 use Rattle.decide.proofs.Settled.{size-part}
@@ -194,7 +194,7 @@ module _ (p n : ℕ) (ml : Bool) (i : ℕ) (mg odd : Bool) where
 parts : (n u : ℕ) → n ≡ n / u * u + n % u
 parts n u = sym (div-add-mod' n u)
 
-pub hole-same-is : (w : Way) (p y : ℕ) → settled w p (y * 2 + 1) false 0 true ≡ hole? w p (size (y * 2 + 1)) (odd? y)
+hole-same-is : (w : Way) (p y : ℕ) → settled w p (y * 2 + 1) false 0 true ≡ hole? w p (size (y * 2 + 1)) (odd? y)
 hole-same-is w p y = by-cases p (y * 2 + 1) false 0 true (odd? y) w (beyond-of p (size (y * 2 + 1))) none two (λ e. tie-two) (λ h k. four w h k)
   where
     half : (y : ℕ) → (y * 2 + 1) / 2 ≡ y
@@ -242,7 +242,7 @@ hole-same-is w p y = by-cases p (y * 2 + 1) false 0 true (odd? y) w (beyond-of p
 
 -- ---- unlike signs: z - 2
 
-pub hole-unlike-is : (w : Way) (p y : ℕ) → 0 < y → settled w p (y * 2 - 2) true 1 false ≡ hole? w p (size (y * 2 - 2)) (odd? y)
+hole-unlike-is : (w : Way) (p y : ℕ) → 0 < y → settled w p (y * 2 - 2) true 1 false ≡ hole? w p (size (y * 2 - 2)) (odd? y)
 hole-unlike-is w p y Y = by-cases p (y * 2 - 2) true 1 false (odd? y) w (beyond-of p (size (y * 2 - 2))) (λ d. refl) two (λ e. tie-two) (λ h k. four w h k)
   where
     half : (y : ℕ) → (y * 2 - 2) / 2 ≡ y - 1
@@ -348,7 +348,7 @@ or-none : (a b c d : Bool) → a ≡ d → (d ≡ false → b ≡ false) → c �
 or-none true b c d e f g = e
 or-none false b c d e f g = let h = f (sym e) in rw (h, g) e
 
-pub hole-same-decided : (w : Way) (p e y : ℕ) → size (y * 2 + 1) + e ≤ mostExponent → leastExponent ≤ size (y * 2 + 1) + e → holeSame w p e (y * 2) ≡ hole? w p (size (y * 2 + 1)) (odd? y)
+hole-same-decided : (w : Way) (p e y : ℕ) → size (y * 2 + 1) + e ≤ mostExponent → leastExponent ≤ size (y * 2 + 1) + e → holeSame w p e (y * 2) ≡ hole? w p (size (y * 2 + 1)) (odd? y)
 unfolding holeSame decided
 hole-same-decided w p e y h k = or-none _ _ _ _ (hole-same-is w p y) (λ f. quiet-large w p e (y * 2 + 1) false h (no-carry p (y * 2 + 1) false (odd? y) w (beyond-of p (size (y * 2 + 1))) f exact (λ g. even))) (quiet-small w p e (y * 2 + 1 + 0) true 0 (le-trans k (le-of-eq (ap (λ (v : ℕ). size v + e) (flat (y * 2 + 1))))))
   where
@@ -371,7 +371,7 @@ hole-same-decided w p e y h k = or-none _ _ _ _ (hole-same-is w p y) (λ f. quie
     even : odd? y ≡ false → bump (lean near ((y * 2 + 1) / 2) 2 ((y * 2 + 1) % 2) false) p ((y * 2 + 1) / 2) ≡ 0
     even f = ap (λ (v : ℕ). bump (lean near v 2 ((y * 2 + 1) % 2) false) p v) (half y) ∙ ap (λ (v : ℕ). bump (lean near y 2 v false) p y) (last y) ∙ tied (eqb (y % 2) 0) refl f
 
-pub hole-unlike-decided : (w : Way) (p e y : ℕ) → 0 < p → 0 < y → size (y * 2 - 2) + e ≤ mostExponent → leastExponent ≤ size (y * 2 - 2 + 1) + e → holeUnlike w p e (y * 2) ≡ hole? w p (size (y * 2 - 2)) (odd? y)
+hole-unlike-decided : (w : Way) (p e y : ℕ) → 0 < p → 0 < y → size (y * 2 - 2) + e ≤ mostExponent → leastExponent ≤ size (y * 2 - 2 + 1) + e → holeUnlike w p e (y * 2) ≡ hole? w p (size (y * 2 - 2)) (odd? y)
 unfolding holeUnlike decided
 hole-unlike-decided w p e y P Y h k = or-none _ _ _ _ (hole-unlike-is w p y Y) (λ f. quiet-large w p e (y * 2 - 2) true h (no-carry p (y * 2 - 2) true (odd? y) w (beyond-of p (size (y * 2 - 2))) f (λ d. flat-bump _ p (y * 2 - 2) (λ g. odd p P)) (λ g o. even))) (quiet-small w p e (y * 2 - 2 + 1) false 0 k)
   where
@@ -393,11 +393,11 @@ hole-unlike-decided w p e y P Y h k = or-none _ _ _ _ (hole-unlike-is w p y Y) (
 size-next : (y : ℕ) → 0 < y → size (y * 2 + 1) ≡ size y + 1
 size-next y Y = size-part y 1 1 Y (omega arith)
 
-pub size-above : (m f : ℕ) → 0 < m → size (m * 2 ^ f * 2 + 1) ≡ size m + f + 1
+size-above : (m f : ℕ) → 0 < m → size (m * 2 ^ f * 2 + 1) ≡ size m + f + 1
 size-above m f M = size-next (m * 2 ^ f) (mul-pos M (pow-pos f)) ∙ ap (λ (v : ℕ). v + 1) (size-shift m f M)
 
 -- one less, where m is a power of two
-pub size-below : (m f : ℕ) → 2 ≤ m → size (m * 2 ^ f * 2 - 2) ≡ size m + f + 1 - cond (eqb m (2 ^ (size m - 1))) 1 0
+size-below : (m f : ℕ) → 2 ≤ m → size (m * 2 ^ f * 2 - 2) ≡ size m + f + 1 - cond (eqb m (2 ^ (size m - 1))) 1 0
 size-below m f M = ap size (double (m * 2 ^ f)) ∙ size-shift (m * 2 ^ f - 1) 1 (pos (m * 2 ^ f) big) ∙ go (size m) refl
   where
     double : (y : ℕ) → y * 2 - 2 ≡ (y - 1) * 2
@@ -453,7 +453,7 @@ size-below m f M = ap size (double (m * 2 ^ f)) ∙ size-shift (m * 2 ^ f - 1) 1
             strict h n = elim (le-or-lt m (2 ^ z)) [ inl k ↦ absurd (n (le-antisymm k h)) | inr k ↦ k ]
 
 -- z / 2 is odd only where the two stand next to each other
-pub odd-shift : (m f : ℕ) → odd? (m * 2 ^ f) ≡ (odd? m && not (some? f))
+odd-shift : (m f : ℕ) → odd? (m * 2 ^ f) ≡ (odd? m && not (some? f))
 odd-shift m zero = ap odd? (mul-one m) ∙ sym (and-one (odd? m))
   where
     and-one : (b : Bool) → (b && true) ≡ b

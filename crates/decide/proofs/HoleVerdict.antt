@@ -1,17 +1,15 @@
 -- Within a hole, where all of x is read and nothing of y, the verdict is the same for every k, and is found by sizes alone.
-use mathlib.Core.Path.{_≡_, refl, sym, ap, _∙_, subst}
-use mathlib.Core.Bool.{Bool, true, false}
-use Prim.Native.Nat.{ℕ, zero, suc, _+_, _-_, _*_, _/_, _^_, _≤_, _<_}
+use mathlib.Core.Path.{_≡_, sym, ap, _∙_}
+use mathlib.Core.Bool.{false}
+use Prim.Native.Nat.{ℕ, _-_, _*_, _/_, _^_, _≤_, _<_}
 use native.Mathlib.Nat.{div-one}
 use native.Mathlib.Omega.{arith}
-use borrow.Author.Tests.{lt-ltb, le-ltb}
 use Rattle.number.specs.Operand.{Operand, mantissa, lastWeight, WellFormed}
 use Rattle.rounding.specs.Mode.{Mode}
-use Rattle.rounding.specs.Sum.{scale}
 use Rattle.depth.specs.Columns.{topExponent}
 use Rattle.depth.specs.Read.{unread}
 use Rattle.depth.specs.Depth.{plus, Fixed}
-use Rattle.decide.specs.Decide.{some?, reaches?, readDigits, beyond, holeBySize, decideAt}
+use Rattle.decide.specs.Decide.{some?, readDigits, beyond, holeBySize, decideAt}
 use Rattle.depth.proofs.Place.{other-top}
 use Rattle.decide.proofs.Beyond.{digits-are}
 use Rattle.decide.proofs.Decision.{reached, not-reaching, decides-fixed}

@@ -1,17 +1,16 @@
 -- `lean` is the ternary value, and with the quotient it gives what is selected; the cut unit does not matter.
 use mathlib.Core.Path.{_≡_, refl, sym, ap, _∙_, subst}
 use mathlib.Core.Logic.{_⊎_, inl, inr}
-use mathlib.Core.Bool.{Bool, true, false, not, cond, _&&_}
-use Prim.Native.Nat.{ℕ, zero, suc, _+_, _-_, _*_, _/_, _%_, _^_, _≤_, _<_, compare, Ordering, Ordering·lt, Ordering·eq, Ordering·gt}
-use native.Mathlib.Nat.{le-refl, le-trans, le-of-eq, suc-mul, zero-mul, mul-assoc, mul-le-mul-right, div-eq-of-lt-le, div-add-mod'}
+use mathlib.Core.Bool.{Bool, true, false, cond}
+use Prim.Native.Nat.{ℕ, zero, suc, _+_, _*_, _/_, _%_, _≤_, _<_, compare, Ordering, Ordering·lt, Ordering·eq, Ordering·gt}
+use native.Mathlib.Nat.{suc-mul, mul-le-mul-right, div-eq-of-lt-le, div-add-mod'}
 use native.Mathlib.Omega.{arith}
-use borrow.Author.Tests.{ne-eqb, eq-eqb}
+use borrow.Author.Tests.{ne-eqb}
 use lib.Dec.{eqb}
 use lib.Ieee.{nearest}
-use lib.Ieee.Nearest.{closest}
 use Rattle.rounding.specs.Mode.{Way, near, under, over}
 use Rattle.rounding.specs.Select.{quotient}
-use Rattle.rounding.proofs.Order.{le-or-lt, Cmp, cmp, compare-at}
+use Rattle.rounding.proofs.Order.{Cmp, cmp, compare-at}
 use Rattle.decide.specs.Decide.{tie, off, lean, step}
 
 -- a is what lies below one unit u: nothing, or something

@@ -1,9 +1,9 @@
 -- The decision on a pair, from the least and greatest amounts of each: it holds exactly when the two ends have one sign and one answer.
 use mathlib.Core.Path.{_≡_, refl, sym, ap, _∙_, subst}
 use mathlib.Core.Logic.{_⊎_, inl, inr}
-use mathlib.Core.Bool.{Bool, true, false, not, cond, _&&_, _||_, Bool·beq}
-use Prim.Native.Nat.{ℕ, zero, suc, _+_, _-_, _*_, _/_, _%_, _^_, _≤_, _<_, compare, Ordering, Ordering·lt, Ordering·eq, Ordering·gt}
-use native.Mathlib.Nat.{le-refl, le-trans, le-of-eq, le-of-lt, lt-of-lt-of-le, lt-of-le-of-lt, le-antisymm, mul-le-mul-right, suc-mul, add-comm, add-le-add, pow-succ'}
+use mathlib.Core.Bool.{Bool, true, false, not, cond, _||_, Bool·beq}
+use Prim.Native.Nat.{ℕ, zero, suc, _+_, _-_, _*_, _^_, _≤_, _<_, compare, Ordering, Ordering·lt, Ordering·eq, Ordering·gt}
+use native.Mathlib.Nat.{le-trans, le-of-eq, lt-of-lt-of-le, lt-of-le-of-lt, le-antisymm, mul-le-mul-right, suc-mul, add-comm, add-le-add}
 use native.Mathlib.Omega.{arith}
 use borrow.Author.Tests.{ltb-true, ltb-false}
 use lib.Dec.{ltb}
@@ -18,7 +18,7 @@ use Rattle.rounding.proofs.Ends.{plus as positive, minus as negative}
 use Rattle.decide.specs.Decide.{some?, settled, decided, orLarge, orSmall, sameSigns, unlikeSigns, unlikePair, seenPair, farSame, farUnlike, holeSame, holeUnlike, farPair, holePair}
 use Rattle.decide.proofs.Settled.{Span}
 use Rattle.decide.proofs.Range.{Sides, decided-if, decided-only, only-large, only-small, no-refusal}
-use Rattle.decide.proofs.Rows.{Seen, Held, last-none, last-half, same-one, same-both, unlike-unread, unlike-read, sides-same-one, sides-same-both, sides-unlike-unread, sides-unlike-read}
+use Rattle.decide.proofs.Rows.{Seen, seen-le, Held, last-none, last-half, same-one, same-both, unlike-unread, unlike-read, sides-same-one, sides-same-both, sides-unlike-unread, sides-unlike-read}
 use Rattle.decide.proofs.RowsFar.{Unseen, far-same, far-unlike, hole-same, hole-unlike, sides-far-same, sides-far-unlike, sides-hole-same, sides-hole-unlike}
 
 -- the test t decides A
@@ -127,16 +127,10 @@ module _ (neg : Bool) (o : Mode) (p s : ℕ) (P : 0 < p) where
   -- what is read orders the amounts
   module _ (j x u xl xh y v yl yh : ℕ) (a : Seen j x u xl xh) (b : Seen j y v yl yh) where
     x-le : xl ≤ xh
-    x-le = omega (arith, a .low, a .high, pow-mono (go (a .l) (a .cut)))
-      where
-        go : (l : ℕ) → l + u ≡ j → l ≤ j
-        go l e = omega arith
+    x-le = seen-le j x u xl xh a
 
     y-le : yl ≤ yh
-    y-le = omega (arith, b .low, b .high, pow-mono (go (b .l) (b .cut)))
-      where
-        go : (l : ℕ) → l + v ≡ j → l ≤ j
-        go l e = omega arith
+    y-le = seen-le j y v yl yh b
 
     below : y < x → yh < xl
     below h = let k = mul-le-mul-right (2 ^ j) h in omega (arith, a .low, b .high, suc-mul y (2 ^ j), pow-pos (b .l))
@@ -190,7 +184,7 @@ module _ (neg : Bool) (o : Mode) (p s : ℕ) (P : 0 < p) where
       go true d i k = refused (inr (lt-of-le-of-lt (le-of-eq (sym low-same)) (x-more j x u xl xh y v yl yh a b i)))
       go false true i k = refused (inl (lt-of-le-of-lt (le-of-eq low-same) (x-more j y v yl yh x u xl xh b a k)))
 
-  pub unlike-pair : (g : Bool) (j x u xl xh y v yl yh : ℕ) → Seen j x u xl xh → Seen j y v yl yh → Held s j x → Held s j y → Decides (unlikePair o p (j + s) g x u y v) (Difference g xl xh yl yh)
+  unlike-pair : (g : Bool) (j x u xl xh y v yl yh : ℕ) → Seen j x u xl xh → Seen j y v yl yh → Held s j x → Held s j y → Decides (unlikePair o p (j + s) g x u y v) (Difference g xl xh yl yh)
   unfolding unlikePair
   unlike-pair g j x u xl xh y v yl yh a b r t = go (ltb y x) (ltb x y) refl refl
     where

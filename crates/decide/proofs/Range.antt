@@ -1,9 +1,9 @@
 -- With refusals: the two ends get one answer exactly when `decided` says so.
-use mathlib.Core.Path.{_≡_, refl, sym, ap, _∙_, subst}
+use mathlib.Core.Path.{_≡_, refl, sym, ap, _∙_}
 use mathlib.Core.Logic.{_⊎_, inl, inr}
-use mathlib.Core.Bool.{Bool, true, false, not, cond, _&&_, _||_}
-use Prim.Native.Nat.{ℕ, zero, suc, _+_, _-_, _*_, _/_, _%_, _^_, _≤_, _<_, compare, Ordering, Ordering·lt, Ordering·eq, Ordering·gt}
-use native.Mathlib.Nat.{le-refl, le-trans, le-of-eq, le-of-lt, lt-of-lt-of-le, lt-of-le-of-lt, le-antisymm, suc-mul, mul-le-mul-right}
+use mathlib.Core.Bool.{Bool, true, false, cond, _&&_, _||_}
+use Prim.Native.Nat.{ℕ, suc, _+_, _*_, _^_, _≤_, _<_, compare, Ordering·gt}
+use native.Mathlib.Nat.{le-trans, le-of-eq, le-of-lt, lt-of-lt-of-le, lt-of-le-of-lt, le-antisymm, suc-mul, mul-le-mul-right}
 use native.Mathlib.Omega.{arith}
 use borrow.Author.Tests.{ltb-true, lt-ltb, le-ltb, eqb-true, eqb-false, eq-eqb, ne-eqb}
 use lib.Dec.{ltb, eqb}
@@ -11,7 +11,7 @@ use lib.Pow.{pow-pos, pow-add, pow-mono}
 use lib.Ieee.{size}
 use lib.Ieee.Digits.{size-lt, size-reaches}
 use Rattle.rounding.specs.Mode.{Way, near, under, over}
-use Rattle.rounding.specs.Select.{chosen, onGrid}
+use Rattle.rounding.specs.Select.{chosen}
 use Rattle.rounding.specs.Answer.{rounded, ranged, number, digits, signed, Answer, tooLarge, tooSmall}
 use Rattle.number.specs.Limits.{leastExponent, mostExponent}
 use Rattle.rounding.proofs.Order.{le-or-lt, size-mono, compare-at}
@@ -20,8 +20,8 @@ use Rattle.rounding.proofs.Between.{is-large, is-small, is-in, digits-one, turn
 use Rattle.rounding.proofs.Scale.{exact, size-shift}
 use Rattle.decide.specs.Decide.{enough, settled, carry, shortLeast, shortMost, large?, small?, decided, orLarge, orSmall}
 use Rattle.decide.proofs.Settled.{Alike, Span, Enough, enough-or, enough-true, part-lt, settled-if, settled-only}
-use Rattle.decide.proofs.Carry.{size-enough, size-pow, size-pos}
-use Rattle.decide.proofs.Short.{at-least, next-rep, size-under, size-least-short, size-most-short}
+use Rattle.decide.proofs.Carry.{size-enough, size-pow}
+use Rattle.decide.proofs.Short.{at-least, size-least-short, size-most-short}
 
 -- ---- refused
 

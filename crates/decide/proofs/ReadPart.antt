@@ -1,17 +1,15 @@
 -- An operand after k columns: what is read of it in cut units, and how many digits are left; or nothing of it is read.
 use mathlib.Core.Path.{_≡_, refl, sym, ap, _∙_, subst}
-use mathlib.Core.Logic.{_⊎_, inl, inr}
-use mathlib.Core.Bool.{Bool, true, false, not, cond, true≢false}
-use Prim.Native.Nat.{ℕ, zero, suc, _+_, _-_, _*_, _/_, _%_, _^_, _≤_, _<_, max}
-use native.Mathlib.Nat.{le-refl, le-trans, le-of-eq, le-of-lt, lt-of-lt-of-le, lt-of-le-of-lt, le-antisymm, suc-mul, zero-mul, add-mul, mul-assoc, mul-le-mul-right, mul-lt-mul-of-pos-right, div-eq-of-lt, pow-succ'}
+use mathlib.Core.Logic.{inl, inr}
+use mathlib.Core.Bool.{Bool, true, false, true≢false}
+use Prim.Native.Nat.{ℕ, zero, suc, _+_, _-_, _*_, _/_, _^_, _≤_, _<_, max}
+use native.Mathlib.Nat.{le-trans, le-of-eq, suc-mul, zero-mul, add-mul, mul-le-mul-right, div-eq-of-lt, pow-succ'}
 use native.Mathlib.Omega.{arith}
-use lib.Pow.{pow-pos, pow-mono, pow-add}
+use lib.Pow.{pow-pos, pow-add}
 use lib.Ieee.{size}
 use Rattle.number.specs.Operand.{Operand, mantissa, lastWeight, WellFormed}
 use Rattle.rounding.specs.Sum.{amount}
 use Rattle.depth.specs.Read.{unread}
-use Rattle.rounding.proofs.Order.{le-or-lt}
-use Rattle.rounding.proofs.Selection.{multiple}
 use Rattle.rounding.proofs.Even.{size-is}
 use Rattle.rounding.proofs.Scale.{size-shift}
 use Rattle.number.proofs.Digits.{mantissa-lt, precision-two}
@@ -20,7 +18,6 @@ use Rattle.depth.proofs.Reach.{base, digitsAt, end, at-least, at-most}
 use Rattle.depth.proofs.Amounts.{amount-end, amount-nil, like-end}
 use Rattle.depth.proofs.Meet.{at-cut, base-grid, low-grid}
 use Rattle.decide.proofs.Lean.{zero-or}
-use Rattle.decide.proofs.Carry.{size-pos}
 use Rattle.decide.proofs.Rows.{Seen, Held}
 use Rattle.decide.proofs.RowsFar.{Unseen}
 

@@ -1,13 +1,13 @@
 -- The rows of the table: for each, the two ends as so many cut units and a part. Both operands reach into what is read.
-use mathlib.Core.Path.{_≡_, refl, sym, ap, _∙_, subst}
-use mathlib.Core.Logic.{_⊎_, inl, inr}
-use mathlib.Core.Bool.{Bool, true, false, not, cond, _&&_, _||_}
-use Prim.Native.Nat.{ℕ, zero, suc, _+_, _-_, _*_, _/_, _%_, _^_, _≤_, _<_}
-use native.Mathlib.Nat.{le-refl, le-trans, le-of-eq, le-of-lt, lt-of-lt-of-le, mul-le-mul-right, suc-mul, pow-succ', zero-mul}
+use mathlib.Core.Path.{_≡_, refl, sym, ap, _∙_}
+use mathlib.Core.Logic.{inl, inr}
+use mathlib.Core.Bool.{true, false, _||_}
+use Prim.Native.Nat.{ℕ, zero, suc, _+_, _-_, _*_, _^_, _≤_, _<_}
+use native.Mathlib.Nat.{le-trans, le-of-eq, pow-succ'}
 use native.Mathlib.Omega.{arith}
-use borrow.Author.Tests.{ne-eqb, eq-eqb}
-use lib.Dec.{ltb, eqb}
-use lib.Pow.{pow-pos, pow-mono, pow-add}
+use borrow.Author.Tests.{ne-eqb}
+use lib.Dec.{eqb}
+use lib.Pow.{pow-pos, pow-mono}
 use lib.Ieee.{size}
 use Rattle.number.specs.Limits.{leastExponent, mostExponent}
 use Rattle.rounding.proofs.Order.{size-mono}
@@ -22,6 +22,12 @@ pub record Seen (j x u least most : ℕ) : Type 0 where
   pub cut : l + u ≡ j
   pub low : least ≡ x * 2 ^ j
   pub high : most + 2 ^ l ≡ x * 2 ^ j + 2 ^ j
+
+pub seen-le : (j x u xl xh : ℕ) → Seen j x u xl xh → xl ≤ xh
+seen-le j x u xl xh a = omega (arith, a .low, a .high, pow-mono (go (a .l) (a .cut)))
+  where
+    go : (l : ℕ) → l + u ≡ j → l ≤ j
+    go l e = omega arith
 
 -- ---- the weight of the last digit against the cut
 
@@ -99,8 +105,8 @@ same-both j x u xl xh y v yl yh p q =
     some : (C L M : ℕ) → L * 2 ≤ C → M * 4 ≤ C → 0 < L → 0 < M → (0 < C - (L + M)) × (C - (L + M) < C)
     some C L M h k l m = (omega arith, omega arith)
 
-    some' : (C L M : ℕ) → L * 4 ≤ C → M * 2 ≤ C → 0 < L → 0 < M → (0 < C - (L + M)) × (C - (L + M) < C)
-    some' C L M h k l m = (omega arith, omega arith)
+    more-than : (C L M : ℕ) → L * 4 ≤ C → M * 2 ≤ C → 0 < L → 0 < M → (0 < C - (L + M)) × (C - (L + M) < C)
+    more-than C L M h k l m = (omega arith, omega arith)
 
     none : (C L M : ℕ) → L * 2 ≡ C → M * 2 ≡ C → C - (L + M) ≡ 0
     none C L M h k = omega arith
@@ -108,7 +114,7 @@ same-both j x u xl xh y v yl yh p q =
     part : (u v : ℕ) → p .l + suc u ≡ j → q .l + suc v ≡ j → Part (some? u || some? v) (2 ^ j) (2 ^ j - (2 ^ p .l + 2 ^ q .l))
     part zero zero e f = none (2 ^ j) (2 ^ p .l) (2 ^ q .l) (last-one (p .l) j e) (last-one (q .l) j f)
     part zero (suc v) e f = some (2 ^ j) (2 ^ p .l) (2 ^ q .l) (last-half (p .l) 0 j e) (last-quarter (q .l) v j f) (pow-pos (p .l)) (pow-pos (q .l))
-    part (suc u) v e f = some' (2 ^ j) (2 ^ p .l) (2 ^ q .l) (last-quarter (p .l) u j e) (last-half (q .l) v j f) (pow-pos (p .l)) (pow-pos (q .l))
+    part (suc u) v e f = more-than (2 ^ j) (2 ^ p .l) (2 ^ q .l) (last-quarter (p .l) u j e) (last-half (q .l) v j f) (pow-pos (p .l)) (pow-pos (q .l))
 
 -- ---- unlike signs, and x is larger where both are read
 

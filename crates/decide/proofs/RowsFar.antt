@@ -1,15 +1,13 @@
 -- The rows of the table where nothing of y is read.
-use mathlib.Core.Path.{_≡_, refl, sym, ap, _∙_, subst}
-use mathlib.Core.Logic.{_⊎_, inl, inr}
-use mathlib.Core.Bool.{Bool, true, false, not, cond, _&&_, _||_}
-use Prim.Native.Nat.{ℕ, zero, suc, _+_, _-_, _*_, _/_, _%_, _^_, _≤_, _<_}
-use native.Mathlib.Nat.{le-refl, le-trans, le-of-eq, le-of-lt, lt-of-lt-of-le, mul-le-mul-right, suc-mul, pow-succ'}
+use mathlib.Core.Path.{_≡_, refl, sym, ap, _∙_}
+use mathlib.Core.Logic.{inl, inr}
+use mathlib.Core.Bool.{Bool, true, false, not, cond, _||_}
+use Prim.Native.Nat.{ℕ, zero, suc, _+_, _-_, _*_, _^_, _≤_, _<_}
+use native.Mathlib.Nat.{le-trans, le-of-eq, pow-succ'}
 use native.Mathlib.Omega.{arith}
 use borrow.Author.Tests.{ne-eqb, eq-eqb, ltb-true, ltb-false}
 use lib.Dec.{ltb, eqb}
-use lib.Pow.{pow-pos, pow-mono, pow-add}
-use lib.Ieee.{size}
-use Rattle.number.specs.Limits.{leastExponent, mostExponent}
+use lib.Pow.{pow-pos, pow-mono}
 use Rattle.rounding.proofs.Order.{size-mono}
 use Rattle.decide.proofs.Lean.{Part}
 use Rattle.decide.specs.Decide.{some?}
@@ -129,8 +127,8 @@ module _ (s j x u xl xh g f yl yh : ℕ) (p : Seen j x (suc u) xl xh) (q : Unsee
       some : (C L M : ℕ) → L * 2 ≤ C → M * 4 ≤ C → 0 < L → 0 < M → (0 < C - (L + M)) × (C - (L + M) < C)
       some C L M h k l m = (omega arith, omega arith)
 
-      some' : (C L M : ℕ) → L * 4 ≤ C → M * 2 ≤ C → 0 < L → 0 < M → (0 < C - (L + M)) × (C - (L + M) < C)
-      some' C L M h k l m = (omega arith, omega arith)
+      more-than : (C L M : ℕ) → L * 4 ≤ C → M * 2 ≤ C → 0 < L → 0 < M → (0 < C - (L + M)) × (C - (L + M) < C)
+      more-than C L M h k l m = (omega arith, omega arith)
 
       none : (C L M : ℕ) → L * 2 ≡ C → M * 2 ≡ C → C - (L + M) ≡ 0
       none C L M h k = omega arith
@@ -138,7 +136,7 @@ module _ (s j x u xl xh g f yl yh : ℕ) (p : Seen j x (suc u) xl xh) (q : Unsee
       part : (u f : ℕ) → p .l + suc u ≡ j → g + suc f ≡ j → Part (some? u || some? f) C (C - (L + G))
       part zero zero m n = none C L G (last-one (p .l) j m) (last-one g j n)
       part zero (suc f) m n = some C L G (last-half (p .l) 0 j m) (last-quarter g f j n) (pow-pos (p .l)) (pow-pos g)
-      part (suc u) f m n = some' C L G (last-quarter (p .l) u j m) (last-half g f j n) (pow-pos (p .l)) (pow-pos g)
+      part (suc u) f m n = more-than C L G (last-quarter (p .l) u j m) (last-half g f j n) (pow-pos (p .l)) (pow-pos g)
 
   pub sides-far-same : 0 < x → Held s j x → (i tail : ℕ) → Sides s j x (not (some? f)) i tail (xl + yl) (xh + yh)
   sides-far-same h r i tail =

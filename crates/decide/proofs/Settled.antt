@@ -1,12 +1,12 @@
 -- The decision is right: the least and the greatest sum round alike exactly when `settled` says so.
 use mathlib.Core.Path.{_≡_, refl, sym, ap, _∙_, subst}
 use mathlib.Core.Logic.{_⊎_, inl, inr}
-use mathlib.Core.Bool.{Bool, true, false, not, cond, _&&_}
+use mathlib.Core.Bool.{Bool, true, false, _&&_}
 use Prim.Native.Nat.{ℕ, zero, suc, _+_, _-_, _*_, _/_, _%_, _^_, _≤_, _<_, compare, Ordering, Ordering·lt, Ordering·eq, Ordering·gt}
-use native.Mathlib.Nat.{le-refl, le-trans, le-of-eq, le-of-lt, lt-of-lt-of-le, lt-of-le-of-lt, le-antisymm, suc-mul, mul-assoc, mul-le-mul-right, add-mul, div-add-mod', mod-lt, pow-succ'}
+use native.Mathlib.Nat.{le-trans, le-of-eq, le-of-lt, lt-of-lt-of-le, lt-of-le-of-lt, le-antisymm, suc-mul, mul-assoc, mul-le-mul-right, div-add-mod', mod-lt, pow-succ'}
 use native.Mathlib.Omega.{arith}
-use borrow.Author.Tests.{ltb-true, leb-true, lt-ltb, le-leb, le-ltb, lt-leb}
-use lib.Dec.{ltb, leb}
+use borrow.Author.Tests.{ltb-true, leb-true, lt-ltb, le-leb}
+use lib.Dec.{ltb}
 use lib.Pow.{pow-pos, pow-mono, pow-add}
 use lib.Ieee.{size}
 use lib.Ieee.Digits.{size-lt, size-le}
@@ -14,10 +14,10 @@ use lib.Ieee.Fits.{kept-lt}
 use Rattle.rounding.specs.Mode.{Way, near, under, over}
 use Rattle.rounding.specs.Select.{quotient, unit, chosen, onGrid}
 use Rattle.rounding.proofs.Selection.{Rep, full, chosen-mono}
-use Rattle.rounding.proofs.Order.{le-or-lt, Cmp, cmp, compare-at, size-mono, mul-one-one}
+use Rattle.rounding.proofs.Order.{le-or-lt, Cmp, cmp, compare-at, size-mono}
 use Rattle.rounding.proofs.Scale.{exact, size-shift}
 use Rattle.decide.specs.Decide.{tie, off, lean, step, alike, enough, settled}
-use Rattle.decide.proofs.Lean.{zero-or, Part, Halves, lean-exact, lean-rest, lean-more, lean-scale, quot-lean, tern-lean}
+use Rattle.decide.proofs.Lean.{zero-or, Part, Halves, lean-exact, lean-rest, lean-scale, quot-lean, tern-lean}
 
 -- selected alike, with the same ternary value
 pub record Alike (w : Way) (p lo hi : ℕ) : Type 0 where
@@ -227,14 +227,14 @@ module _ (w : Way) (p : ℕ) (P : 0 < p) (j n : ℕ) (ml : Bool) (i : ℕ) (mg :
     n-pos : 0 < n
     n-pos = some (le-trans P (enough-le w p n e))
 
-    some' : 0 < n + i
-    some' = lt-of-lt-of-le n-pos (go n i)
+    some-most : 0 < n + i
+    some-most = lt-of-lt-of-le n-pos (go n i)
       where
         go : (a b : ℕ) → a ≤ a + b
         go a b = omega arith
 
-    unit' : 2 ^ (size (n + i) - p) ≡ u
-    unit' = ap (λ (z : ℕ). 2 ^ (z - p)) one-size
+    unit-most : 2 ^ (size (n + i) - p) ≡ u
+    unit-most = ap (λ (z : ℕ). 2 ^ (z - p)) one-size
 
     pub chosen-least : chosen w p lo ≡ step first q * (u * 2 ^ j)
     chosen-least = ap (chosen w p) (s .least) ∙ chosen-cut w p n j (s .a) ml n-pos (s .part-least) (enough-le w p n e) q u r refl n-is r-lt (halves w p n e)
@@ -243,10 +243,10 @@ module _ (w : Way) (p : ℕ) (P : 0 < p) (j n : ℕ) (ml : Bool) (i : ℕ) (mg :
     tern-least = ap (λ (z : ℕ). compare (chosen w p z) z) (s .least) ∙ tern-cut w p n j (s .a) ml n-pos (s .part-least) (enough-le w p n e) q u r refl n-is r-lt (halves w p n e)
 
     pub chosen-most : chosen w p hi ≡ step last q * (u * 2 ^ j)
-    chosen-most = ap (chosen w p) (s .most) ∙ chosen-cut w p (n + i) j (s .b) mg some' (s .part-most) fits q u (r + i) unit' more-is room (halves w p n e)
+    chosen-most = ap (chosen w p) (s .most) ∙ chosen-cut w p (n + i) j (s .b) mg some-most (s .part-most) fits q u (r + i) unit-most more-is room (halves w p n e)
 
     pub tern-most : compare (chosen w p hi) hi ≡ last
-    tern-most = ap (λ (z : ℕ). compare (chosen w p z) z) (s .most) ∙ tern-cut w p (n + i) j (s .b) mg some' (s .part-most) fits q u (r + i) unit' more-is room (halves w p n e)
+    tern-most = ap (λ (z : ℕ). compare (chosen w p z) z) (s .most) ∙ tern-cut w p (n + i) j (s .b) mg some-most (s .part-most) fits q u (r + i) unit-most more-is room (halves w p n e)
 
     alike-if : first ≡ last → Alike w p lo hi
     alike-if f = record { number = chosen-least ∙ ap (λ (z : Ordering). step z q * (u * 2 ^ j)) f ∙ sym chosen-most; tern = tern-least ∙ f ∙ sym tern-most }
@@ -280,13 +280,13 @@ module _ (w : Way) (p : ℕ) (P : 0 < p) (j n : ℕ) (ml : Bool) (i : ℕ) (mg :
 
   -- the unit above the least, where the greatest has reached it
   next-between : i ≡ 1 → (lo ≤ suc n * C) × (suc n * C ≤ hi)
-  next-between one = (go (s .a) (s .least) a-lt, go' (s .b) (s .most ∙ ap (λ (z : ℕ). (n + z) * C + s .b) one))
+  next-between one = (go (s .a) (s .least) a-lt, next (s .b) (s .most ∙ ap (λ (z : ℕ). (n + z) * C + s .b) one))
     where
       go : (a : ℕ) → lo ≡ n * C + a → a < C → lo ≤ suc n * C
       go a e h = omega (arith, suc-mul n C)
 
-      go' : (b : ℕ) → hi ≡ (n + 1) * C + b → suc n * C ≤ hi
-      go' b e = omega (arith, suc-mul n C)
+      next : (b : ℕ) → hi ≡ (n + 1) * C + b → suc n * C ≤ hi
+      next b e = omega (arith, suc-mul n C)
 
   carried : Enough w p n → u ≤ r + i → Alike w p lo hi → ⊥
   carried e h f =
@@ -419,20 +419,3 @@ module _ (w : Way) (p : ℕ) (P : 0 < p) (j n : ℕ) (ml : Bool) (i : ℕ) (mg :
         | inl h ↦ absurd (carried (e .0) h f)
         | inr h ↦ all (e .1) (lt-ltb (r + i) u h) (ap (λ (o : Ordering). alike (lean w q u r ml) o) (sym (alike-only (e .0) h f)) ∙ alike-refl (lean w q u r ml))
       ]
-
-  -- a settled sum has read p digits, and one more where the least is a whole number of units
-  pub settled-digits : settled w p n ml i mg ≡ true → (p ≤ size n) × (ml ≡ false → p < size n)
-  unfolding settled
-  settled-digits e = (enough-le w p n (enough-true w p n (and-true (enough w p n) _ e .0)), λ f. elim (le-or-lt (size n) p) [ inl h ↦ absurd (whole f h) | inr h ↦ h ])
-    where
-      none : (m : Bool) → m ≡ false → Part m C (s .a) → s .a ≡ 0
-      none false f h = h
-      none true f h = absurd (let z : _≡_ {A = ℕ} 0 1 = cc in omega arith)
-
-      is : lo ≡ n * C + s .a → s .a ≡ 0 → lo ≡ n * C
-      is f z = omega arith
-
-      whole : ml ≡ false → size n ≤ p → ⊥
-      whole f h =
-          let x = is (s .least) (none ml f (s .part-least)) in
-          never (full p j n P (le-of-lt (n-few h))) (le-of-eq x) (le-trans (le-of-eq (sym x)) (le-of-lt (s .apart))) (settled-if e)

@@ -1,17 +1,17 @@
 -- How many digits the selected number has where fewer are read than it needs: only all ones can grow by a digit.
 use mathlib.Core.Path.{_≡_, refl, sym, ap, _∙_, subst}
 use mathlib.Core.Logic.{_⊎_, inl, inr}
-use mathlib.Core.Bool.{Bool, true, false, not, cond, _&&_}
-use Prim.Native.Nat.{ℕ, zero, suc, _+_, _-_, _*_, _/_, _%_, _^_, _≤_, _<_, compare, Ordering, Ordering·lt, Ordering·eq, Ordering·gt}
-use native.Mathlib.Nat.{le-refl, le-trans, le-of-eq, le-of-lt, lt-of-lt-of-le, lt-of-le-of-lt, le-antisymm, suc-mul, mul-assoc, mul-le-mul-right, mul-lt-mul-of-pos-right, pow-succ'}
+use mathlib.Core.Bool.{Bool, true, false, cond, _&&_}
+use Prim.Native.Nat.{ℕ, zero, suc, _+_, _-_, _*_, _%_, _^_, _≤_, _<_, compare, Ordering, Ordering·lt, Ordering·eq, Ordering·gt}
+use native.Mathlib.Nat.{le-refl, le-trans, le-of-eq, le-of-lt, lt-of-lt-of-le, lt-of-le-of-lt, le-antisymm, suc-mul, mul-le-mul-right, mul-lt-mul-of-pos-right, pow-succ'}
 use native.Mathlib.Omega.{arith}
-use borrow.Author.Tests.{eq-eqb, ne-eqb, ltb-true, lt-ltb, le-ltb}
-use lib.Dec.{ltb, eqb}
+use borrow.Author.Tests.{eq-eqb, ne-eqb, lt-ltb, le-ltb}
+use lib.Dec.{eqb}
 use lib.Pow.{pow-pos, pow-mono, pow-add}
 use lib.Ieee.{size}
-use lib.Ieee.Digits.{size-lt, size-le, size-reaches}
+use lib.Ieee.Digits.{size-lt, size-le}
 use Rattle.rounding.specs.Mode.{Way, near, under, over}
-use Rattle.rounding.specs.Select.{unit, chosen, onGrid}
+use Rattle.rounding.specs.Select.{unit, chosen}
 use Rattle.rounding.proofs.Selection.{Rep, full, chosen-mono, under-le}
 use Rattle.rounding.proofs.Order.{le-or-lt, compare-at, size-mono}
 use Rattle.rounding.proofs.Even.{size-is}
@@ -94,10 +94,10 @@ ones-up w p z P h g =
     up near e = middle (beyond (2 ^ (z - p)) u-two)
 
 -- a p-digit number above, or below, bounds the size
-pub size-under : (w : Way) (p v m z : ℕ) → 0 < p → Rep p m → v ≤ m → m < 2 ^ z → size (chosen w p v) ≤ z
+size-under : (w : Way) (p v m z : ℕ) → 0 < p → Rep p m → v ≤ m → m < 2 ^ z → size (chosen w p v) ≤ z
 size-under w p v m z P t h k = size-le (chosen w p v) z (lt-of-le-of-lt (le-trans (chosen-mono w p v m P h) (le-of-eq (exact w p m P t))) k)
 
-pub size-over : (w : Way) (p v m : ℕ) → 0 < p → Rep p m → m ≤ v → size m ≤ size (chosen w p v)
+size-over : (w : Way) (p v m : ℕ) → 0 < p → Rep p m → m ≤ v → size m ≤ size (chosen w p v)
 size-over w p v m P t h = size-mono m (chosen w p v) (le-trans (le-of-eq (sym (exact w p m P t))) (chosen-mono w p m v P h))
 
 module _ (w : Way) (p n j : ℕ) (P : 0 < p) (M : 0 < n) (few : size n ≤ p) where

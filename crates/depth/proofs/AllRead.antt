@@ -1,12 +1,12 @@
 -- Once every digit is read, the answer is fixed.
 use mathlib.Core.Path.{_≡_, refl, sym, ap, _∙_}
 use mathlib.Core.Bool.{Bool, true, false}
-use Prim.Native.Nat.{ℕ, _+_, _-_, _*_, _/_, _^_, _≤_, _<_}
+use Prim.Native.Nat.{ℕ, _+_, _-_, _*_, _/_, _^_, _≤_}
 use native.Mathlib.Nat.{div-one}
 use native.Mathlib.Omega.{arith}
 use Rattle.number.specs.Operand.{Operand, mantissa, lastWeight, WellFormed}
 use Rattle.rounding.specs.Mode.{Mode}
-use Rattle.rounding.specs.Sum.{amount, share, scale, add}
+use Rattle.rounding.specs.Sum.{amount, share, scale}
 use Rattle.depth.specs.Columns.{topExponent, Like}
 use Rattle.depth.specs.Read.{unread}
 use Rattle.depth.specs.Depth.{plus, result, Fixed}

@@ -1,20 +1,18 @@
 -- The bounds of document 01: how deep a sum can be at most.
-use mathlib.Core.Path.{_≡_, refl, sym, ap, _∙_, subst}
-use mathlib.Core.Logic.{_⊎_, inl, inr}
+use mathlib.Core.Path.{_≡_, refl, sym, _∙_}
 use mathlib.Core.Bool.{Bool, true, false, cond, true≢false}
-use Prim.Native.Nat.{ℕ, zero, suc, _+_, _-_, _*_, _/_, _≤_, _<_, min, max}
-use native.Mathlib.Nat.{le-refl, le-trans, le-of-lt, add-comm}
+use Prim.Native.Nat.{ℕ, _+_, _-_, _*_, _≤_, _<_, max}
+use native.Mathlib.Nat.{le-trans, le-of-lt}
 use native.Mathlib.Omega.{arith}
 use borrow.Author.Tests.{leb-true, leb-false}
 use lib.Dec.{leb}
 use Rattle.number.specs.Limits.{mostPrecision}
-use Rattle.number.specs.Operand.{Operand, lastWeight, WellFormed}
+use Rattle.number.specs.Operand.{Operand, WellFormed}
 use Rattle.number.proofs.Limits.{two-digits, precisions-some}
 use Rattle.number.proofs.Digits.{precision-two}
 use Rattle.rounding.specs.Mode.{Mode}
-use Rattle.rounding.proofs.Order.{le-or-lt}
-use Rattle.depth.specs.Columns.{topExponent, Like}
-use Rattle.depth.specs.Depth.{plus, result, Fixed}
+use Rattle.depth.specs.Columns.{topExponent}
+use Rattle.depth.specs.Depth.{plus, Fixed}
 use Rattle.depth.specs.Bound.{columnsFor, farColumns, boundOf, bound, deepest}
 use Rattle.depth.proofs.Place.{fixed-swap}
 use Rattle.depth.proofs.AllRead.{all-read, read-fixed}
@@ -37,11 +35,8 @@ columns-some n h = omega arith
 -- ---- and those that hold m digits and p + 2
 
 far-first : (p m : ℕ) → m ≤ 64 * farColumns p m
-unfolding farColumns
-far-first p m = le-trans (left m (p + 2)) (holds (max m (p + 2)))
-  where
-    left : (a b : ℕ) → a ≤ max a b
-    left a b = omega arith
+unfolding farColumns columnsFor
+far-first p m = omega arith
 
 far-target : (p m : ℕ) → p + 2 ≤ 64 * farColumns p m
 unfolding farColumns columnsFor

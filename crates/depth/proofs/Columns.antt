@@ -1,19 +1,19 @@
 -- To agree in the first k columns, bit by bit, is to have the same digits above those that are unread.
 use mathlib.Core.Path.{_≡_, refl, sym, ap, _∙_, subst}
 use mathlib.Core.Logic.{_⊎_, inl, inr}
-use mathlib.Core.Bool.{Bool, true, false, cond, true≢false}
-use Prim.Native.Nat.{ℕ, zero, suc, _+_, _-_, _*_, _/_, _%_, _^_, _≤_, _<_, min, max}
-use native.Mathlib.Nat.{le-refl, le-trans, lt-of-lt-of-le, div-add-mod', div-eq-of-lt, div-one, mod-lt}
+use mathlib.Core.Bool.{Bool, true, false, cond}
+use Prim.Native.Nat.{ℕ, zero, suc, _+_, _-_, _*_, _/_, _%_, _^_, _≤_, _<_}
+use native.Mathlib.Nat.{lt-of-lt-of-le, div-eq-of-lt, div-one}
 use native.Mathlib.Omega.{arith}
 use borrow.Author.Tests.{lt-ltb, le-ltb}
 use lib.Dec.{ltb}
-use lib.Pow.{pow-pos, pow-mono, shr-lt, shr-shr}
+use lib.Pow.{pow-mono, shr-lt, shr-shr}
 use Rattle.number.specs.Limits.{mostPrecision, leastExponent}
 use Rattle.number.specs.Operand.{Operand, mantissa, lastWeight, WellFormed}
 use Rattle.number.proofs.Limits.{weights-counted}
 use Rattle.number.proofs.Digits.{mantissa-lt}
 use Rattle.rounding.proofs.Order.{le-or-lt}
-use Rattle.depth.specs.Columns.{topExponent, bitAt, columnBit, Agree, Like}
+use Rattle.depth.specs.Columns.{bitAt, columnBit, Agree, Like}
 use Rattle.depth.specs.Read.{unread}
 
 -- ---- a number is its binary digits

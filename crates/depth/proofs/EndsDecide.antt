@@ -1,11 +1,11 @@
 -- k columns fix the answer exactly when the least and the greatest sum have one sign and one answer; and else some pair is at hand that gets another.
 -- Of the answer only this is used: it is monotone in the exact value, and what is not zero is not answered as zero is.
-use mathlib.Core.Path.{_≡_, refl, sym, ap, _∙_, subst}
+use mathlib.Core.Path.{_≡_, refl, sym, ap, _∙_}
 use mathlib.Core.Logic.{_⊎_, inl, inr}
-use mathlib.Core.Bool.{Bool, true, false, not, cond, Bool-discrete}
+use mathlib.Core.Bool.{Bool, true, false, not, Bool-discrete}
 use native.Mathlib.Decide.{ℕ-discrete}
-use Prim.Native.Nat.{ℕ, zero, suc, _+_, _-_, _*_, _≤_, _<_, min, max, compare, Ordering, Ordering·lt, Ordering·eq, Ordering·gt}
-use native.Mathlib.Nat.{lt-of-lt-of-le, not-suc-le-zero, le-trans, le-of-eq, add-le-add}
+use Prim.Native.Nat.{ℕ, _+_, _-_, _≤_, _<_, max, compare, Ordering, Ordering·lt, Ordering·eq, Ordering·gt}
+use native.Mathlib.Nat.{lt-of-lt-of-le, not-suc-le-zero, le-of-eq, add-le-add}
 use native.Mathlib.Omega.{arith}
 use Rattle.number.specs.Operand.{Operand, lastWeight, WellFormed}
 use Rattle.rounding.specs.Mode.{Mode, way}

@@ -1,14 +1,12 @@
 -- A fixed answer with ternary value 0 leaves no digit unread.
-use mathlib.Core.Path.{_≡_, refl, sym, ap, _∙_, subst}
-use mathlib.Core.Logic.{_⊎_, inl, inr}
-use mathlib.Core.Bool.{Bool, true, false, not, cond, _&&_, Bool·beq, true≢false}
-use Prim.Native.Nat.{ℕ, zero, suc, _+_, _-_, _*_, _/_, _%_, _^_, _≤_, _<_, max, compare, Ordering, Ordering·lt, Ordering·eq, Ordering·gt}
-use native.Mathlib.Nat.{le-refl, le-trans, le-of-eq, le-antisymm, pow-succ', mul-left-comm}
+use mathlib.Core.Path.{_≡_, refl, sym, _∙_}
+use mathlib.Core.Bool.{Bool, true, false, cond, true≢false}
+use Prim.Native.Nat.{ℕ, _+_, _-_, _^_, _≤_, _<_, compare, Ordering, Ordering·lt, Ordering·eq, Ordering·gt}
 use native.Mathlib.Omega.{arith}
 use lib.Dec.{ltb}
 use lib.Pow.{pow-pos}
 use lib.Ieee.{size}
-use Rattle.number.specs.Operand.{Operand, mantissa, lastWeight, WellFormed}
+use Rattle.number.specs.Operand.{Operand, lastWeight, WellFormed}
 use Rattle.rounding.specs.Mode.{Mode, Way, way}
 use Rattle.rounding.specs.Sum.{amount, share, scale, zeroSign, add}
 use Rattle.rounding.specs.Select.{chosen}
@@ -21,7 +19,6 @@ use Rattle.rounding.proofs.Order.{Cmp, cmp, mul-one-one}
 use Rattle.rounding.proofs.Selection.{chosen-rep}
 use Rattle.rounding.proofs.Between.{digits-one, turned-one}
 use Rattle.rounding.proofs.Ends.{plus as positive, minus as negative, nought, regular}
-use Rattle.number.proofs.Digits.{precision-two}
 use Rattle.depth.proofs.Place.{top-first, top-second}
 use Rattle.depth.proofs.Reach.{end, digitsAt}
 use Rattle.depth.proofs.Amounts.{like-end, like-self, amount-end}

@@ -1,16 +1,16 @@
 -- Strictly between two neighbouring multiples of 2 ^ c, where 2 ^ c is at most half the unit of the last digit, every number has the same answer.
-use mathlib.Core.Path.{_≡_, refl, sym, ap, _∙_, subst}
+use mathlib.Core.Path.{_≡_, sym, ap, _∙_}
 use mathlib.Core.Logic.{_⊎_, inl, inr}
-use mathlib.Core.Bool.{Bool, true, false}
-use Prim.Native.Nat.{ℕ, zero, suc, _+_, _-_, _*_, _/_, _%_, _^_, _≤_, _<_, compare, Ordering, Ordering·lt, Ordering·eq, Ordering·gt}
-use native.Mathlib.Nat.{pow-succ', le-refl, le-trans, le-of-eq, le-of-lt, lt-of-lt-of-le, lt-of-le-of-lt, le-antisymm, le-of-suc-le-suc, suc-mul, mul-assoc, mul-le-mul-right, lt-of-mul-lt-mul-right, div-eq-of-lt-le, div-add-mod', mod-lt, lt-div-mul-add}
+use mathlib.Core.Bool.{Bool}
+use Prim.Native.Nat.{ℕ, suc, _+_, _-_, _*_, _/_, _%_, _^_, _≤_, _<_, compare, Ordering, Ordering·lt, Ordering·gt}
+use native.Mathlib.Nat.{pow-succ', le-trans, le-of-eq, lt-of-lt-of-le, lt-of-le-of-lt, le-antisymm, suc-mul, mul-assoc, mul-le-mul-right, lt-of-mul-lt-mul-right, div-eq-of-lt-le, div-add-mod', mod-lt}
 use native.Mathlib.Omega.{arith}
-use lib.Pow.{pow-pos, pow-mono, pow-add}
+use lib.Pow.{pow-pos, pow-add}
 use lib.Ieee.{size, nearest}
 use lib.Ieee.Digits.{size-lt, size-le}
 use Rattle.rounding.specs.Mode.{Way, near, under, over}
 use Rattle.rounding.specs.Select.{quotient, unit, chosen, onGrid}
-use Rattle.rounding.specs.Answer.{rounded, digits, signed}
+use Rattle.rounding.specs.Answer.{rounded}
 use Rattle.rounding.proofs.Order.{le-or-lt, compare-at}
 use Rattle.rounding.proofs.Even.{size-ge}
 

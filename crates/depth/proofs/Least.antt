@@ -1,7 +1,7 @@
 -- The depth is one number, and it exists wherever each number of columns is known to fix the answer or not to.
-use mathlib.Core.Path.{_≡_, refl, sym, subst}
+use mathlib.Core.Path.{_≡_, subst}
 use mathlib.Core.Logic.{_⊎_, inl, inr}
-use Prim.Native.Nat.{ℕ, zero, suc, _+_, _-_, _≤_, _<_}
+use Prim.Native.Nat.{ℕ, zero, suc, _-_, _≤_, _<_}
 use native.Mathlib.Nat.{le-refl, le-trans, le-antisymm, lt-of-lt-of-le}
 use native.Mathlib.Omega.{arith}
 use Rattle.number.specs.Operand.{Operand}
@@ -28,13 +28,13 @@ module _ (f : Operation) (o : Mode) (p : ℕ) (x y : Operand) where
   -- ---- the depth is one number: the least that fixes
 
   pub depth-least : (j k : ℕ) → Deciding f o p x y k → 1 ≤ j → Fixed f o p x y j → k ≤ j
-  depth-least j k d J u = elim (le-or-lt k j) [ inl h ↦ h | inr h ↦ absurd (not-both (k - 1) (fixed-more j (k - 1) (before j k h) u) (d .fewer (lt-of-lt-of-le' J h))) ]
+  depth-least j k d J u = elim (le-or-lt k j) [ inl h ↦ h | inr h ↦ absurd (not-both (k - 1) (fixed-more j (k - 1) (before j k h) u) (d .fewer (more-than-one J h))) ]
     where
       before : (j k : ℕ) → j < k → j ≤ k - 1
       before j k h = omega arith
 
-      lt-of-lt-of-le' : {j k : ℕ} → 1 ≤ j → j < k → 1 < k
-      lt-of-lt-of-le' a b = omega arith
+      more-than-one : {j k : ℕ} → 1 ≤ j → j < k → 1 < k
+      more-than-one a b = omega arith
 
   pub deciding-unique : (j k : ℕ) → Deciding f o p x y j → Deciding f o p x y k → j ≡ k
   deciding-unique j k a b = le-antisymm (depth-least k j a (b .one) (b .fixed)) (depth-least j k b (a .one) (a .fixed))

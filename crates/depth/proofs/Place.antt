@@ -1,7 +1,7 @@
 -- Where the operands of a pair stand: no regular one lies above E, none reaches below the scale, and the two may change places.
 use mathlib.Core.Path.{_≡_, refl, sym, ap, _∙_, subst}
-use mathlib.Core.Bool.{Bool, true, false, cond, true≢false}
-use Prim.Native.Nat.{ℕ, _+_, _-_, _*_, _≤_, _<_, min, max}
+use mathlib.Core.Bool.{Bool, true, false, cond}
+use Prim.Native.Nat.{ℕ, _-_, _*_, _≤_, min, max}
 use native.Mathlib.Nat.{le-refl, le-trans, le-of-eq, add-comm}
 use native.Mathlib.Omega.{arith}
 use Rattle.number.specs.Operand.{Operand, lastWeight}

@@ -1,24 +1,22 @@
 -- Where only the first k columns are known: the least and the greatest digits that x can have, both attained.
-use mathlib.Core.Path.{_≡_, refl, sym, ap, _∙_, subst}
-use mathlib.Core.Logic.{_⊎_, inl, inr}
-use mathlib.Core.Bool.{Bool, true, false, not, cond, true≢false}
-use Prim.Native.Nat.{ℕ, zero, suc, _+_, _-_, _*_, _/_, _%_, _^_, _≤_, _<_, max}
-use native.Mathlib.Nat.{le-refl, le-trans, le-of-eq, le-of-lt, lt-of-lt-of-le, lt-of-le-of-lt, le-antisymm, suc-mul, mul-le-mul-right, mul-lt-mul-of-pos-right, mod-lt, div-add-mod', div-mul-le-self, div-eq-of-lt-le, le-div-iff-mul-le, div-lt-iff-lt-mul}
+use mathlib.Core.Path.{_≡_, sym, ap, _∙_}
+use mathlib.Core.Bool.{Bool, true, false, cond}
+use Prim.Native.Nat.{ℕ, suc, _+_, _-_, _*_, _/_, _%_, _^_, _≤_, _<_, max}
+use native.Mathlib.Nat.{le-refl, le-trans, le-of-eq, lt-of-lt-of-le, suc-mul, mul-le-mul-right, mod-lt, div-add-mod', div-mul-le-self, div-eq-of-lt-le, div-lt-iff-lt-mul}
 use native.Mathlib.Omega.{arith}
-use lib.Pow.{pow-pos, pow-mono, pow-add}
-use Rattle.number.specs.Operand.{Operand, mantissa, lastWeight, WellFormed}
-use Rattle.rounding.specs.Sum.{amount}
+use lib.Pow.{pow-pos, pow-add}
+use Rattle.number.specs.Operand.{Operand, mantissa, WellFormed}
 use Rattle.depth.specs.Columns.{Like}
 use Rattle.depth.specs.Read.{unread}
 use Rattle.depth.proofs.Columns.{read-of}
-use Rattle.number.proofs.Digits.{mantissa-lt, mantissa-ge, put, put-mantissa, put-well-formed}
+use Rattle.number.proofs.Digits.{mantissa-lt, mantissa-ge, put}
 
 -- ---- the numbers with the same quotient by 2 ^ t
 
-pub from-base : (n t : ℕ) → n / 2 ^ t * 2 ^ t ≤ n
+from-base : (n t : ℕ) → n / 2 ^ t * 2 ^ t ≤ n
 from-base n t = div-mul-le-self n (2 ^ t)
 
-pub to-base : (n t : ℕ) → n ≤ n / 2 ^ t * 2 ^ t + (2 ^ t - 1)
+to-base : (n t : ℕ) → n ≤ n / 2 ^ t * 2 ^ t + (2 ^ t - 1)
 to-base n t = fit (n / 2 ^ t * 2 ^ t) (n % 2 ^ t) (2 ^ t) (div-add-mod' n (2 ^ t)) (mod-lt n (pow-pos t))
   where
     fit : (a r u : ℕ) → a + r ≡ n → r < u → n ≤ a + (u - 1)

@@ -1,14 +1,13 @@
 -- A difference is a sum with the second sign turned, and the same columns: what is known of sums is known of differences.
 use mathlib.Core.Path.{_≡_, refl, sym, ap, _∙_, subst}
-use mathlib.Core.Logic.{_⊎_, inl, inr}
 use mathlib.Core.Bool.{Bool, true, false, not}
-use Prim.Native.Nat.{ℕ, _-_, _≤_, _<_}
+use Prim.Native.Nat.{ℕ}
 use Rattle.number.specs.Operand.{Operand, mantissa, lastWeight, WellFormed, turned}
 use Rattle.number.proofs.Digits.{turned-well-formed}
 use Rattle.rounding.specs.Mode.{Mode}
 use Rattle.rounding.specs.Sum.{add, subtract}
 use Rattle.depth.specs.Columns.{topExponent, bitAt, columnBit, Agree, Like}
-use Rattle.depth.specs.Depth.{Operation, plus, minus, result, Fixed, Open, Deciding}
+use Rattle.depth.specs.Depth.{Operation, plus, minus, result, Fixed, Open}
 
 -- what is added to the first operand
 unfoldable pub addend : Operation → Operand → Operand

@@ -2,24 +2,23 @@
 -- Besides: today's `deepest` is 129 (Bounds), the limbs used (Used), document 01's depths (Examples), the answer from what is read (Answered).
 use mathlib.Core.Path.{_≡_, refl, sym, ap, _∙_, subst}
 use mathlib.Core.Logic.{_⊎_, inl, inr}
-use mathlib.Core.Bool.{Bool, true, false, _&&_, cond, true≢false}
-use Prim.Native.Nat.{ℕ, zero, suc, _+_, _-_, _*_, _/_, _^_, _≤_, _<_}
+use mathlib.Core.Bool.{Bool, true, false, _&&_, true≢false}
+use Prim.Native.Nat.{ℕ, _+_, _/_, _^_, _≤_, _<_}
 use native.Mathlib.Nat.{le-trans, le-of-eq}
 use native.Mathlib.Omega.{arith}
-use Rattle.number.specs.Limits.{mostPrecision, limbsFor}
+use Rattle.number.specs.Limits.{mostPrecision}
 use Rattle.number.specs.Operand.{Operand, mantissa, WellFormed}
 use Rattle.rounding.specs.Mode.{Mode}
 use Rattle.rounding.specs.Sum.{share, scale, add}
-use Rattle.depth.specs.Columns.{topExponent, Agree, Like, limbsUsed}
+use Rattle.depth.specs.Columns.{topExponent, Agree, Like}
 use Rattle.depth.specs.Read.{unread}
-use Rattle.depth.specs.Depth.{Operation, plus, minus, result, Fixed, Open, Deciding, Depth}
-use Rattle.depth.specs.Bound.{columnsFor, bound, deepest}
+use Rattle.depth.specs.Depth.{Operation, plus, result, Fixed, Open, Deciding, Depth}
+use Rattle.depth.specs.Bound.{bound, deepest}
 use Rattle.depth.proofs.Columns.{columns→quotients, quotients→columns}
-use Rattle.depth.proofs.Place.{top-first, top-second}
 use Rattle.depth.proofs.Amounts.{like-self}
-use Rattle.depth.proofs.EndsDecide.{Monotone, Between, between, lx, ly, hx, hy, up, down, like-first, like-second, Cancelling, crosses, Same, FixedBy, OpenBy, same-fixes, same-or-open, Alike, fixed-if, fixed-or}
-use Rattle.depth.proofs.Least.{fixed-more, not-both, depth-least, deciding-unique, find}
-use Rattle.depth.proofs.Subtract.{addend, addend-well-formed, addend-precision, addend-exponent, addend-zero, result-is, top-is, like-sum, like-second-sum, fixed-result, fixed-sum, open-result}
+use Rattle.depth.proofs.EndsDecide.{Monotone, between, lx, ly, hx, hy, up, down, like-first, like-second, Cancelling, crosses, Same, FixedBy, OpenBy, same-fixes, same-or-open, Alike, fixed-if, fixed-or}
+use Rattle.depth.proofs.Least.{fixed-more, not-both, deciding-unique, find}
+use Rattle.depth.proofs.Subtract.{addend, addend-well-formed, addend-precision, addend-exponent, addend-zero, result-is, top-is, fixed-result, fixed-sum, open-result}
 use Rattle.depth.proofs.Bounds.{bound-some, bound-most, bound-fixed}
 use Rattle.depth.proofs.Another.{another}
 use Rattle.depth.proofs.ExactRead.{Exact, first-read, second-read}

@@ -1,6 +1,6 @@
 -- How deep a sum can be at most. Definitions only.
 use Prim.Native.Nat.{ℕ, _+_, _-_, _*_, _/_, max}
-use mathlib.Core.Bool.{Bool, cond}
+use mathlib.Core.Bool.{cond}
 use lib.Dec.{leb}
 use Rattle.number.specs.Limits.{mostPrecision}
 use Rattle.number.specs.Operand.{Operand}
