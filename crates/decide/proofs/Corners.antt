@@ -11,7 +11,7 @@ use Rattle.rounding.specs.Mode.{nearest, zeroward, upward, downward, way}
 use Rattle.rounding.specs.Sum.{scale}
 use Rattle.depth.specs.Columns.{topExponent}
 use Rattle.depth.specs.Read.{unread}
-use Rattle.decide.specs.Decide.{tie, off, lean, step, enough, settled, bump, carry, shortLeast, shortMost, large?, small?, orLarge, orSmall, sameSigns, unlikeSigns, farSame, farUnlike, unlikePair, seenPair, farPair, hole?, holeBySize, reaches?, readDigits, readPart, leftOver, beyond, decideAt}
+use Rattle.decide.specs.Decide.{tie, off, lean, step, enough, settled, bump, carry, shortLeast, shortMost, large?, small?, orLarge, orSmall, sameSigns, unlikeSigns, farSame, farUnlike, sameRow, unlikeRow, farSameRow, farUnlikeRow, unlikePair, seenPair, farPair, hole?, holeBySize, reaches?, readDigits, readPart, leftOver, beyond, decideAt}
 
 -- ---- regular numbers of one limb and of two
 
@@ -78,5 +78,5 @@ pub corners :
     × (decideAt zeroward 65 (full false (2 ^ 63 + 1) mid) (full false (2 ^ 63) (mid - 64)) 1 ≡ false)
     -- marked sum 13: no number of a million digits is computed
     × (decideAt upward 62 (half mid) (half (mid - 1000000)) 1 ≡ true)
-unfolding decideAt beyond leftOver readPart readDigits reaches? holeBySize hole? farPair seenPair unlikePair farUnlike farSame unlikeSigns sameSigns orLarge orSmall small? large? shortMost shortLeast carry bump settled enough step lean off tie way scale lastWeight mantissa limbsFor spareBits valueIn size topExponent unread bias leastExponent mostExponent
+unfolding decideAt beyond leftOver readPart readDigits reaches? holeBySize hole? farPair seenPair unlikePair farUnlike farSame unlikeSigns sameSigns farUnlikeRow farSameRow unlikeRow sameRow orLarge orSmall small? large? shortMost shortLeast carry bump settled enough step lean off tie way scale lastWeight mantissa limbsFor spareBits valueIn size topExponent unread bias leastExponent mostExponent
 corners = (refl, refl, refl, refl, refl, refl, refl, refl, refl, refl, refl, refl, refl, refl, refl, refl)

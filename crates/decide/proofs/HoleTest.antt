@@ -17,7 +17,7 @@ use Rattle.rounding.proofs.Even.{size-is}
 use Rattle.rounding.proofs.Scale.{size-shift}
 use Rattle.decide.proofs.Settled.{size-part}
 use Rattle.decide.proofs.Lean.{zero-or, lean-exact, lean-rest, lean-more}
-use Rattle.decide.specs.Decide.{some?, tie, off, lean, alike, enough, settled, bump, carry, shortLeast, large?, small?, decided, holeSame, holeUnlike, holePair, holeBySize, odd?, hole?}
+use Rattle.decide.specs.Decide.{some?, tie, off, lean, alike, enough, settled, bump, carry, shortLeast, large?, small?, decided, holeSame, holeUnlike, holeSameRow, holeUnlikeRow, holePair, holeBySize, odd?, hole?}
 
 -- the part of `settled` behind `enough`
 abbrev inner : Way → ℕ → ℕ → ℕ → Bool → ℕ → Bool → Bool
@@ -349,7 +349,7 @@ or-none true b c d e f g = e
 or-none false b c d e f g = let h = f (sym e) in rw (h, g) e
 
 hole-same-decided : (w : Way) (p e y : ℕ) → size (y * 2 + 1) + e ≤ mostExponent → leastExponent ≤ size (y * 2 + 1) + e → holeSame w p e (y * 2) ≡ hole? w p (size (y * 2 + 1)) (odd? y)
-unfolding holeSame decided
+unfolding holeSame holeSameRow decided
 hole-same-decided w p e y h k = or-none _ _ _ _ (hole-same-is w p y) (λ f. quiet-large w p e (y * 2 + 1) false h (no-carry p (y * 2 + 1) false (odd? y) w (beyond-of p (size (y * 2 + 1))) f exact (λ g. even))) (quiet-small w p e (y * 2 + 1 + 0) true 0 (le-trans k (le-of-eq (ap (λ (v : ℕ). size v + e) (flat (y * 2 + 1))))))
   where
     flat : (n : ℕ) → n ≡ n + 0
@@ -372,7 +372,7 @@ hole-same-decided w p e y h k = or-none _ _ _ _ (hole-same-is w p y) (λ f. quie
     even f = ap (λ (v : ℕ). bump (lean near v 2 ((y * 2 + 1) % 2) false) p v) (half y) ∙ ap (λ (v : ℕ). bump (lean near y 2 v false) p y) (last y) ∙ tied (eqb (y % 2) 0) refl f
 
 hole-unlike-decided : (w : Way) (p e y : ℕ) → 0 < p → 0 < y → size (y * 2 - 2) + e ≤ mostExponent → leastExponent ≤ size (y * 2 - 2 + 1) + e → holeUnlike w p e (y * 2) ≡ hole? w p (size (y * 2 - 2)) (odd? y)
-unfolding holeUnlike decided
+unfolding holeUnlike holeUnlikeRow decided
 hole-unlike-decided w p e y P Y h k = or-none _ _ _ _ (hole-unlike-is w p y Y) (λ f. quiet-large w p e (y * 2 - 2) true h (no-carry p (y * 2 - 2) true (odd? y) w (beyond-of p (size (y * 2 - 2))) f (λ d. flat-bump _ p (y * 2 - 2) (λ g. odd p P)) (λ g o. even))) (quiet-small w p e (y * 2 - 2 + 1) false 0 k)
   where
     odd : (p : ℕ) → 0 < p → suc (y * 2 - 2) ≡ 2 ^ p → ⊥

@@ -15,7 +15,7 @@ use Rattle.number.specs.Limits.{leastExponent, mostExponent}
 use Rattle.rounding.proofs.Order.{Cmp, cmp, compare-at, size-mono}
 use Rattle.decide.proofs.Lean.{zero-or}
 use Rattle.rounding.proofs.Ends.{plus as positive, minus as negative}
-use Rattle.decide.specs.Decide.{some?, settled, decided, orLarge, orSmall, sameSigns, unlikeSigns, unlikePair, seenPair, farSame, farUnlike, holeSame, holeUnlike, farPair, holePair}
+use Rattle.decide.specs.Decide.{some?, allRead, settled, decided, orLarge, orSmall, sameRow, unlikeRow, farSameRow, farUnlikeRow, holeSameRow, holeUnlikeRow, sameSigns, unlikeSigns, unlikePair, seenPair, farSame, farUnlike, holeSame, holeUnlike, farPair, holePair}
 use Rattle.decide.proofs.Settled.{Span}
 use Rattle.decide.proofs.Range.{Sides, decided-if, decided-only, only-large, only-small, no-refusal}
 use Rattle.decide.proofs.Rows.{Seen, seen-le, Held, last-none, last-half, same-one, same-both, unlike-unread, unlike-read, sides-same-one, sides-same-both, sides-unlike-unread, sides-unlike-read}
@@ -110,7 +110,7 @@ module _ (neg : Bool) (o : Mode) (p s : ℕ) (P : 0 < p) where
   seen-read j x xl xh a = let f = last-none (a .l) 0 j (a .cut) refl in omega (arith, a .low, a .high)
 
   same-sizes : (w : Way) (g : Bool) (j x u xl xh y v yl yh : ℕ) → Seen j x u xl xh → Seen j y v yl yh → Held s j x → Held s j y → 0 < x + y → Decides (sameSigns w p (j + s) x u y v) (rounded w p s g (xl + yl) ≡ rounded w p s g (xh + yh))
-  unfolding sameSigns
+  unfolding sameSigns sameRow
   same-sizes w g j x zero xl xh y zero yl yh a b r t h = let c = seen-read j x xl xh a in let d = seen-read j y yl yh b in always (cc)
   same-sizes w g j x (suc u) xl xh y zero yl yh a b r t h = row-large w g j (x + y) false false 0 true (suc u) (xl + yl) (xh + yh) (same-one j x u xl xh y yl yh a b) (sides-same-one s j x (suc u) xl xh y 0 yl yh a b refl h) (sum-from j x y 0 r t h)
   same-sizes w g j x zero xl xh y (suc v) yl yh a b r t h =
@@ -118,7 +118,7 @@ module _ (neg : Bool) (o : Mode) (p s : ℕ) (P : 0 < p) where
   same-sizes w g j x (suc u) xl xh y (suc v) yl yh a b r t h = row-large w g j (x + y) false false 1 (some? u || some? v) 0 (xl + yl) (xh + yh) (same-both j x u xl xh y v yl yh a b) (sides-same-both s j x (suc u) xl xh y (suc v) yl yh a b h r t 0) (sum-from j x y 1 r t h)
 
   unlike-sizes : (w : Way) (g : Bool) (j x u xl xh y v yl yh : ℕ) → Seen j x u xl xh → Seen j y v yl yh → Held s j x → y < x → Decides (unlikeSigns w p (j + s) x u y v) (rounded w p s g (xl - yh) ≡ rounded w p s g (xh - yl))
-  unfolding unlikeSigns
+  unfolding unlikeSigns unlikeRow
   unlike-sizes w g j x zero xl xh y zero yl yh a b r h = let c = seen-read j x xl xh a in let d = seen-read j y yl yh b in always (cc)
   unlike-sizes w g j x (suc u) xl xh y zero yl yh a b r h = row-small w g j (x - y) false false 0 true (suc u) (xl - yh) (xh - yl) (unlike-read j x u xl xh y yl yh a b h) (sides-unlike-read s j x (suc u) xl xh y 0 yl yh a b refl h) (difference-to j x (x - y + 0) r (omega arith) (omega arith))
   unlike-sizes w g j x zero xl xh y (suc v) yl yh a b r h = row-small w g j (x - y - 1) true false 1 false 0 (xl - yh) (xh - yl) (unlike-unread j x 0 xl xh y v yl yh a b h) (sides-unlike-unread s j x 0 xl xh y (suc v) yl yh a b h r) (difference-to j x (x - y - 1 + 1) r (omega arith) (omega arith))
@@ -222,7 +222,7 @@ module _ (neg : Bool) (o : Mode) (p s : ℕ) (P : 0 < p) where
   -- ---- nothing of y is read
 
   pub far-pair : (a b : Bool) (j x u xl xh g f yl yh : ℕ) → Seen j x (suc u) xl xh → Unseen g yl yh → g + suc f ≡ j → Held s j x → 0 < x → Decides (farPair o p (j + s) a b x (suc u) f) (Pair a b xl xh yl yh)
-  unfolding farPair farSame farUnlike
+  unfolding farPair farSame farUnlike farSameRow farUnlikeRow
   far-pair a b j x u xl xh g f yl yh c d e r h =
       by-signs a b (farSame (way o a) p (j + s) x (suc u) f) (farUnlike (way o a) p x (suc u) f) xl xh yl yh
       (sum-ends a _ xl xh yl yh (omega (arith, pow-pos g, d .low)) (omega (arith, pow-pos g, d .low, low-le, high-le)) (row-large (way o a) a j x true (not (some? f)) (cond (ltb f (suc u)) 1 0) true 0 (xl + yl) (xh + yh) (far-same s j x u xl xh g f yl yh c d e) (sides-far-same s j x u xl xh g f yl yh c d e h r (cond (ltb f (suc u)) 1 0) 0) (le-trans (r .from h) (wider j (more x (cond (ltb f (suc u)) 1 0))))))
@@ -248,7 +248,7 @@ module _ (neg : Bool) (o : Mode) (p s : ℕ) (P : 0 < p) where
       apart = let k = last-half g f j e in let m = mul-le-mul-right (2 ^ j) h in omega (arith, c .low, d .high, pow-pos (d .l))
 
   pub hole-pair : (a b : Bool) (z xl g yl yh : ℕ) → xl ≡ z * 2 ^ g → Unseen g yl yh → 2 ≤ z → Held s g z → Decides (holePair o p (g + s) a b z) (Pair a b xl xl yl yh)
-  unfolding holePair holeSame holeUnlike
+  unfolding holePair holeSame holeUnlike holeSameRow holeUnlikeRow
   hole-pair a b z xl g yl yh e d h r =
       by-signs a b (holeSame (way o a) p (g + s) z) (holeUnlike (way o a) p (g + s) z) xl xl yl yh
       (sum-ends a _ xl xl yl yh (omega (arith, pow-pos g, d .low)) (omega (arith, pow-pos g, d .low, low-le)) (row (way o a) a g (z + 1) false false 0 true 0 (xl + yl) (xl + yh) (hole-same s z xl g yl yh e d h r) (sides-hole-same s z xl g yl yh e d h r)))
