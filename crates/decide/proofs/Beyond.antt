@@ -8,6 +8,7 @@ use lib.Pow.{pow-pos, pow-mono}
 use lib.Ieee.{size}
 use Rattle.number.specs.Operand.{Operand, mantissa, lastWeight, WellFormed}
 use Rattle.rounding.specs.Mode.{Mode}
+use Rattle.rounding.specs.Answer.{Answer}
 use Rattle.rounding.specs.Sum.{amount}
 use Rattle.depth.specs.Read.{unread}
 use Rattle.number.specs.Limits.{leastExponent}
@@ -16,9 +17,9 @@ use Rattle.number.proofs.Digits.{mantissa-lt, mantissa-ge, precision-two}
 use Rattle.depth.proofs.Reach.{digitsAt, end}
 use Rattle.depth.proofs.Amounts.{amount-end}
 use Rattle.depth.proofs.Meet.{least-is}
-use Rattle.decide.specs.Decide.{some?, readDigits, readPart, beyond, farPair, holePair, holeBySize}
+use Rattle.decide.specs.Decide.{some?, readDigits, readPart, beyond, farPair, holePair, holeBySize, farAnswer, holeAnswer, beyondAnswer}
 use Rattle.decide.proofs.Rows.{Seen, Held}
-use Rattle.decide.proofs.Pair.{Decides, Pair, seen-read, far-pair, hole-pair}
+use Rattle.decide.proofs.Pair.{Judges, Pair, leastEnd, seen-read, far-pair, hole-pair}
 use Rattle.decide.proofs.HoleTest.{hole-pair-is}
 use Rattle.decide.proofs.ReadPart.{counted, held, seen-is, seen-held, seen-pos, unseen-first, unseen-below, unseen-cut, unseen-is}
 
@@ -85,9 +86,9 @@ module _ (neg : Bool) (o : Mode) (p : ℕ) (P : 0 < p) (x y : Operand) (g : Well
   below : 64 * k + y .exponent ≤ t
   below = unseen-below t k s y h q y-top sy unseen K
 
-  far : (u : ℕ) → unread t k x ≡ suc u → Decides (farPair o p (j + s) (x .negative) (y .negative) (readPart t k s x) (unread t k x) f) (Pair neg o p s P (x .negative) (y .negative) xl xh yl yh)
+  far : (u : ℕ) → unread t k x ≡ suc u → Judges (farPair o p (j + s) (x .negative) (y .negative) (readPart t k s x) (unread t k x) f) (Pair neg o p s P (x .negative) (y .negative) xl xh yl yh) (leastEnd neg o p s P (x .negative) (y .negative) xl xh yl yh) (farAnswer o p (j + s) (x .negative) (y .negative) (readPart t k s x) (unread t k x) f)
   far u e =
-      subst (λ (n : ℕ). Decides (farPair o p (j + s) (x .negative) (y .negative) (readPart t k s x) n f) (Pair neg o p s P (x .negative) (y .negative) xl xh yl yh)) (sym e)
+      subst (λ (n : ℕ). Judges (farPair o p (j + s) (x .negative) (y .negative) (readPart t k s x) n f) (Pair neg o p s P (x .negative) (y .negative) xl xh yl yh) (leastEnd neg o p s P (x .negative) (y .negative) xl xh yl yh) (farAnswer o p (j + s) (x .negative) (y .negative) (readPart t k s x) n f)) (sym e)
       (far-pair neg o p s P (x .negative) (y .negative) j (readPart t k s x) u xl xh v f yl yh (subst (λ (n : ℕ). Seen j (readPart t k s x) n xl xh) e seen) (unseen-is t k s y h q y-top sy unseen) (unseen-cut t k s y h q y-top sy unseen K)
       (subst (Held s j) (sym (read-is t k s x r)) (seen-held t k s x g r x-top sx flat)) (subst (λ (n : ℕ). 0 < n) (sym (read-is t k s x r)) (seen-pos t k s x g r x-top sx flat)))
 
@@ -127,10 +128,10 @@ module _ (neg : Bool) (o : Mode) (p : ℕ) (P : 0 < p) (x y : Operand) (g : Well
         go : (n : ℕ) → 0 < n → 2 ≤ mantissa x → 2 ≤ mantissa x * n
         go n a b = let c = mul-le-mul-right n b in omega arith
 
-    hole : Decides (holePair o p (y .exponent - 1) (x .negative) (y .negative) z) (Pair neg o p s P (x .negative) (y .negative) xl xh yl yh)
+    hole : Judges (holePair o p (y .exponent - 1) (x .negative) (y .negative) z) (Pair neg o p s P (x .negative) (y .negative) xl xh yl yh) (leastEnd neg o p s P (x .negative) (y .negative) xl xh yl yh) (holeAnswer o p (y .exponent - 1) (x .negative) (y .negative) z)
     hole =
-        subst (λ (n : ℕ). Decides (holePair o p n (x .negative) (y .negative) z) (Pair neg o p s P (x .negative) (y .negative) xl xh yl yh)) (weight (y .exponent) first)
-        (subst (λ (n : ℕ). Decides (holePair o p (v + s) (x .negative) (y .negative) z) (Pair neg o p s P (x .negative) (y .negative) xl n yl yh)) (sym (seen-read neg o p s P j (readPart t k s x) xl xh (subst (λ (n : ℕ). Seen j (readPart t k s x) n xl xh) read seen)))
+        subst (λ (n : ℕ). Judges (holePair o p n (x .negative) (y .negative) z) (Pair neg o p s P (x .negative) (y .negative) xl xh yl yh) (leastEnd neg o p s P (x .negative) (y .negative) xl xh yl yh) (holeAnswer o p n (x .negative) (y .negative) z)) (weight (y .exponent) first)
+        (subst (λ (n : ℕ). Judges (holePair o p (v + s) (x .negative) (y .negative) z) (Pair neg o p s P (x .negative) (y .negative) xl n yl yh) (leastEnd neg o p s P (x .negative) (y .negative) xl n yl yh) (holeAnswer o p (v + s) (x .negative) (y .negative) z)) (sym (seen-read neg o p s P j (readPart t k s x) xl xh (subst (λ (n : ℕ). Seen j (readPart t k s x) n xl xh) read seen)))
         (hole-pair neg o p s P (x .negative) (y .negative) z xl v yl yh x-is (unseen-is t k s y h q y-top sy unseen) two (held x g r s sx v z (mantissa x) (sym same-weight) (mantissa-ge x g r) (mantissa-lt x g))))
       where
         weight : (e : ℕ) → s + 1 ≤ e → e - 1 - s + s ≡ e - 1
@@ -169,18 +170,18 @@ module _ (neg : Bool) (o : Mode) (p : ℕ) (P : 0 < p) (x y : Operand) (g : Well
             sum : (z l e b : ℕ) → s + 1 ≤ e → e ≤ l → z + (b + s) ≡ x .exponent → b ≡ l - s → z + (l - e) + 1 + (e - 1) ≡ x .exponent
             sum z l e b a d c f = omega arith
 
-  pub beyond-decides : Decides (beyond o p x y k t s) (Pair neg o p s P (x .negative) (y .negative) xl xh yl yh)
-  unfolding beyond
-  beyond-decides = arm (unread t k x) (λ e. let u = some-is (unread t k x) e in far (u .0) (u .1)) (λ e. whole-read (none-is (unread t k x) e))
+  pub beyond-judges : Judges (beyond o p x y k t s) (Pair neg o p s P (x .negative) (y .negative) xl xh yl yh) (leastEnd neg o p s P (x .negative) (y .negative) xl xh yl yh) (beyondAnswer o p x y k t s)
+  unfolding beyond beyondAnswer
+  beyond-judges = arm (unread t k x) (λ e. let u = some-is (unread t k x) e in far (u .0) (u .1)) (λ e. whole-read (none-is (unread t k x) e))
     where
-      whole-read : unread t k x ≡ 0 → Decides (holeBySize o p (x .negative) (y .negative) (readDigits t k x) (lastWeight x - y .exponent)) (Pair neg o p s P (x .negative) (y .negative) xl xh yl yh)
+      whole-read : unread t k x ≡ 0 → Judges (holeBySize o p (x .negative) (y .negative) (readDigits t k x) (lastWeight x - y .exponent)) (Pair neg o p s P (x .negative) (y .negative) xl xh yl yh) (leastEnd neg o p s P (x .negative) (y .negative) xl xh yl yh) (holeAnswer o p (y .exponent - 1) (x .negative) (y .negative) (readDigits t k x * 2 ^ (lastWeight x - (y .exponent - 1))))
       whole-read e =
           let m : readDigits t k x ≡ mantissa x = digits-are t k x r ∙ ap (λ (n : ℕ). mantissa x / 2 ^ n) e ∙ div-one (mantissa x) in
-          subst (λ (n : ℕ). Decides (holeBySize o p (x .negative) (y .negative) n (lastWeight x - y .exponent)) (Pair neg o p s P (x .negative) (y .negative) xl xh yl yh)) (sym m)
-          (subst (λ (c : Bool). Decides c (Pair neg o p s P (x .negative) (y .negative) xl xh yl yh)) (by-size e) (hole e))
+          subst (λ (n : ℕ). Judges (holeBySize o p (x .negative) (y .negative) n (lastWeight x - y .exponent)) (Pair neg o p s P (x .negative) (y .negative) xl xh yl yh) (leastEnd neg o p s P (x .negative) (y .negative) xl xh yl yh) (holeAnswer o p (y .exponent - 1) (x .negative) (y .negative) (n * 2 ^ (lastWeight x - (y .exponent - 1))))) (sym m)
+          (subst (λ (c : Bool). Judges c (Pair neg o p s P (x .negative) (y .negative) xl xh yl yh) (leastEnd neg o p s P (x .negative) (y .negative) xl xh yl yh) (holeAnswer o p (y .exponent - 1) (x .negative) (y .negative) (z e))) (by-size e) (hole e))
 
       -- the test on the unread digits takes its arm
-      arm : (u : ℕ) {c d : Bool} {B : Type 0} → (some? u ≡ true → Decides c B) → (some? u ≡ false → Decides d B) → Decides (cond (some? u) c d) B
+      arm : (u : ℕ) {c d : Bool} {B : Type 0} {i a b : Answer} → (some? u ≡ true → Judges c B i a) → (some? u ≡ false → Judges d B i b) → Judges (cond (some? u) c d) B i (cond (some? u) a b)
       arm zero m n = n refl
       arm (suc u) m n = m refl
 

@@ -25,11 +25,11 @@ use Rattle.depth.proofs.Amounts.{amount-end}
 use Rattle.depth.proofs.EndsDecide.{like-first, like-second, lx, ly, up, down, add-is}
 use Rattle.decide.proofs.Settled.{rep-between}
 use Rattle.decide.proofs.Range.{large-answer, small-answer, same-cases}
-use Rattle.decide.proofs.Rows.{Seen, seen-le, last-half}
+use Rattle.decide.proofs.Rows.{sub-mul, Seen, seen-le, last-half}
 use Rattle.decide.proofs.RowsFar.{Unseen}
-use Rattle.decide.proofs.Pair.{Ends, Pair}
+use Rattle.decide.proofs.Pair.{Ends, Pair, leastEnd}
 use Rattle.decide.proofs.ReadPart.{unseen-cut, unseen-is}
-use Rattle.decide.proofs.Decision.{reached, ReadIn, read-in, not-reached, left-is, read-nil, ShownBy, shown, fixed-amounts}
+use Rattle.decide.proofs.Decision.{reached, ReadIn, read-in, not-reached, left-is, read-nil, ShownBy, shown, fixed-amounts, fixed-least}
 
 -- neither refusal
 pub record Accepted (a : Answer) : Type 0 where
@@ -79,26 +79,16 @@ record Mids (p xl xh yl yh : ℕ) : Type 0 where
 swapped : (p xl xh yl yh : ℕ) → Mids p yl yh xl xh → Mids p xl xh yl yh
 swapped p xl xh yl yh d = record { sum = rw (add-comm xl yl, add-comm xh yh) (d .sum); first = d .second; second = d .first }
 
-least : (a b : Bool) (neg : Bool) (o : Mode) (p s xl xh yl yh : ℕ) → Answer
-least false false neg o p s xl xh yl yh = answer neg o p s (xl + yl) 0
-least true true neg o p s xl xh yl yh = answer neg o p s 0 (xh + yh)
-least false true neg o p s xl xh yl yh = answer neg o p s xl yh
-least true false neg o p s xl xh yl yh = answer neg o p s yl xh
-
 plain : (p lo hi : ℕ) → Mid p lo hi → Mid p (lo - 0) (hi - 0)
 plain p lo hi d = record { m = d .m; rep = d .rep; from = omega (arith, d .from); to = omega (arith, d .to) }
 
-meet : (a b neg : Bool) (o : Mode) (p s : ℕ) (P : 0 < p) (xl xh yl yh : ℕ) → Pair neg o p s P a b xl xh yl yh → xl ≤ xh → yl ≤ yh → Accepted (least a b neg o p s xl xh yl yh) → Mids p xl xh yl yh → xl + yl ≡ xh + yh
-unfolding least
+meet : (a b neg : Bool) (o : Mode) (p s : ℕ) (P : 0 < p) (xl xh yl yh : ℕ) → Pair neg o p s P a b xl xh yl yh → xl ≤ xh → yl ≤ yh → Accepted (leastEnd neg o p s P a b xl xh yl yh) → Mids p xl xh yl yh → xl + yl ≡ xh + yh
 meet false false neg o p s P xl xh yl yh e h k ok d = omega (arith, one-value neg o p s (xl + yl) 0 (xh + yh) 0 P e (omega arith) (omega arith) ok (λ u. plain p (xl + yl) (xh + yh) (d .sum)) (λ u. absurd (omega arith)))
 meet true true neg o p s P xl xh yl yh e h k ok d = omega (arith, one-value neg o p s 0 (xh + yh) 0 (xl + yl) P e (omega arith) (omega arith) ok (λ u. absurd (omega arith)) (λ u. plain p (xl + yl) (xh + yh) (d .sum)))
 meet false true neg o p s P xl xh yl yh e h k ok d = one-value neg o p s xl yh xh yl P e h k ok (d .first) (d .second)
 meet true false neg o p s P xl xh yl yh e h k ok d = add-comm xl yl ∙ one-value neg o p s yl xh yh xl P e k h ok (d .second) (d .first) ∙ add-comm yh xh
 
 -- ---- the p-digit numbers
-
-sub-mul : (a b c : ℕ) → (a - b) * c ≡ a * c - b * c
-sub-mul a b c = let e = mul-comm c a in let f = mul-comm c b in mul-comm (a - b) c ∙ mul-sub c a b ∙ cc
 
 few : (p c j n : ℕ) → c < p → n < 2 ^ c * 2 → Rep p (n * 2 ^ j)
 few p c j n h l = record { digits = n; shift = j; few = lt-of-lt-of-le l (le-trans (le-of-eq (twice (2 ^ c) (pow-succ' 2 c))) (pow-mono h)); is = refl }
@@ -272,18 +262,8 @@ module _ (o : Mode) (p : ℕ) (P : 0 < p) (x y : Operand) (g : WellFormed x) (h 
   yh = amount s (end t k y true)
 
   -- the least end is not refused
-  accepted : Accepted (least (x .negative) (y .negative) neg o p s xl xh yl yh)
-  unfolding Fixed result
-  accepted =
-      let l = like-first x y g h k K (x .negative) in
-      let m = like-second x y g h k K (y .negative) in
-      subst Accepted (sym (fixed (lx x y g h k K) (ly x y g h k K) l m) ∙ add-is o p x y k (lx x y g h k K) (ly x y g h k K) l m ∙ by (x .negative) (y .negative) (shown o p P x y g h k K (x .negative) (y .negative) refl refl)) ok
-    where
-      by : (a b : Bool) → ShownBy o p P x y g h k K a b → answer neg o p s (up x y g h k K (lx x y g h k K) (ly x y g h k K)) (down x y g h k K (lx x y g h k K) (ly x y g h k K)) ≡ least a b neg o p s xl xh yl yh
-      by false false v = unfold least in let i = v .up-low in let j = v .down-low in cc
-      by true true v = unfold least in let i = v .up-low in let j = v .down-low in cc
-      by false true v = unfold least in let i = v .up-low in let j = v .down-low in cc
-      by true false v = unfold least in let i = v .up-low in let j = v .down-low in cc
+  accepted : Accepted (leastEnd neg o p s P (x .negative) (y .negative) xl xh yl yh)
+  accepted = subst Accepted (fixed-least o p P x y g h k K fixed) ok
 
   ends : xl ≤ xh → yl ≤ yh → Mids p xl xh yl yh → xl + yl ≡ xh + yh
   ends a b d = meet (x .negative) (y .negative) neg o p s P xl xh yl yh (fixed-amounts o p P x y g h k K fixed) a b accepted d

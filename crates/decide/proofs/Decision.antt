@@ -9,22 +9,23 @@ use borrow.Author.Tests.{ltb-true, ltb-false, lt-ltb, le-ltb}
 use lib.Dec.{ltb}
 use Rattle.number.specs.Operand.{Operand, mantissa, lastWeight, WellFormed}
 use Rattle.rounding.specs.Mode.{Mode}
-use Rattle.rounding.specs.Sum.{scale, share, amount, zeroSign}
+use Rattle.rounding.specs.Answer.{Answer}
+use Rattle.rounding.specs.Sum.{scale, share, amount, zeroSign, add}
 use Rattle.depth.specs.Columns.{topExponent, Like}
 use Rattle.depth.specs.Read.{unread}
-use Rattle.depth.specs.Depth.{plus, Fixed, Open, Deciding}
+use Rattle.depth.specs.Depth.{plus, result, Fixed, Open, Deciding}
 use Rattle.depth.proofs.Columns.{read-of}
 use Rattle.depth.proofs.Place.{top-swap, top-first, top-second, scale-first, scale-second, other-top}
 use Rattle.depth.proofs.Reach.{end}
 use Rattle.depth.proofs.Amounts.{low-like}
-use Rattle.depth.proofs.EndsDecide.{Alike, own-first, own-second, other-first, other-second, fixed-if, fixed-or}
+use Rattle.depth.proofs.EndsDecide.{lx, ly, up, down, like-first, like-second, at, add-is, Alike, own-first, own-second, other-first, other-second, fixed-if, fixed-or}
 use Rattle.depth.proofs.Least.{not-both}
 use Rattle.depth.proofs.AllRead.{read-fixed}
-use Rattle.decide.specs.Decide.{sameSigns, unlikePair, reaches?, readDigits, readPart, leftOver, beyond, seenPair, decideAt}
+use Rattle.decide.specs.Decide.{sameSigns, unlikePair, reaches?, readDigits, readPart, leftOver, beyond, seenPair, decideAt, seenAnswer, beyondAnswer, answerAt}
 use Rattle.decide.proofs.Rows.{Seen, Held}
-use Rattle.decide.proofs.Pair.{Decides, Ends, Pair, seen-pair}
+use Rattle.decide.proofs.Pair.{Decides, Judges, Ends, Pair, leastEnd, seen-pair}
 use Rattle.decide.proofs.ReadPart.{seen-is, seen-held, seen-pos, nil-seen, nil-held}
-use Rattle.decide.proofs.Beyond.{digits-are, read-is, beyond-decides}
+use Rattle.decide.proofs.Beyond.{digits-are, read-is, beyond-judges}
 
 pub reached : (t k : ℕ) (z : Operand) → t - z .exponent < 64 * k → reaches? t k z ≡ true
 unfolding reaches?
@@ -117,11 +118,11 @@ two-zeros o p x y k e f =
 
 -- ---- the ends of the pair, by amounts
 
-swap : (neg : Bool) (o : Mode) (p s : ℕ) (P : 0 < p) (c : Bool) (a b : Bool) (xl xh yl yh : ℕ) → Decides c (Pair neg o p s P b a yl yh xl xh) → Decides c (Pair neg o p s P a b xl xh yl yh)
-swap neg o p s P c false false xl xh yl yh d = rw (add-comm xl yl, add-comm xh yh) d
-swap neg o p s P c true true xl xh yl yh d = rw (add-comm xl yl, add-comm xh yh) d
-swap neg o p s P c false true xl xh yl yh d = d
-swap neg o p s P c true false xl xh yl yh d = d
+swap : (neg : Bool) (o : Mode) (p s : ℕ) (P : 0 < p) (c : Bool) (v : Answer) (a b : Bool) (xl xh yl yh : ℕ) → Judges c (Pair neg o p s P b a yl yh xl xh) (leastEnd neg o p s P b a yl yh xl xh) v → Judges c (Pair neg o p s P a b xl xh yl yh) (leastEnd neg o p s P a b xl xh yl yh) v
+swap neg o p s P c v false false xl xh yl yh d = rw (add-comm xl yl, add-comm xh yh) d
+swap neg o p s P c v true true xl xh yl yh d = rw (add-comm xl yl, add-comm xh yh) d
+swap neg o p s P c v false true xl xh yl yh d = d
+swap neg o p s P c v true false xl xh yl yh d = d
 
 module _ (o : Mode) (p : ℕ) (P : 0 < p) (x y : Operand) (g : WellFormed x) (h : WellFormed y) (k : ℕ) (K : 1 ≤ k) where
   abbrev t : ℕ
@@ -152,13 +153,16 @@ module _ (o : Mode) (p : ℕ) (P : 0 < p) (x y : Operand) (g : WellFormed x) (h 
   abbrev Amounts-same : Type 0
   Amounts-same = Pair neg o p s P (x .negative) (y .negative) xl xh yl yh
 
+  abbrev pub least-answer : Answer
+  least-answer = leastEnd neg o p s P (x .negative) (y .negative) xl xh yl yh
+
   -- both reach into what is read
   one-regular : (x .isZero && y .isZero) ≡ false → (a b : Bool) → x .isZero ≡ a → y .isZero ≡ b → (x .isZero ≡ false) ⊎ (y .isZero ≡ false)
   one-regular some false b e f = inl e
   one-regular some true false e f = inr f
   one-regular some true true e f = absurd (let z : _≡_ {A = ℕ} 0 1 = cc in omega arith)
 
-  both : (x .isZero && y .isZero) ≡ false → reaches? t k x ≡ true → reaches? t k y ≡ true → Decides (seenPair o p (t - 64 * k - s + s) (x .negative) (y .negative) (readPart t k s x) (leftOver t k x) (readPart t k s y) (leftOver t k y)) Amounts-same
+  both : (x .isZero && y .isZero) ≡ false → reaches? t k x ≡ true → reaches? t k y ≡ true → Judges (seenPair o p (t - 64 * k - s + s) (x .negative) (y .negative) (readPart t k s x) (leftOver t k x) (readPart t k s y) (leftOver t k y)) Amounts-same least-answer (seenAnswer neg o p (t - 64 * k - s + s) (x .negative) (y .negative) (readPart t k s x) (leftOver t k x) (readPart t k s y) (leftOver t k y))
   both some e f =
       let a = read-in t k s x g (top-first x y) (scale-first x y) e in
       let b = read-in t k s y h (top-second x y) (scale-second x y) f in
@@ -171,24 +175,24 @@ module _ (o : Mode) (p : ℕ) (P : 0 < p) (x y : Operand) (g : WellFormed x) (h 
       right : (m n : ℕ) → 0 < n → 0 < m + n
       right m n h = omega arith
 
-  x-reaches : reaches? t k y ≡ false → Decides (beyond o p x y k t s) Amounts-same
+  x-reaches : reaches? t k y ≡ false → Judges (beyond o p x y k t s) Amounts-same least-answer (beyondAnswer o p x y k t s)
   x-reaches f =
       let u = not-reached t k y f in
       let v = other-top x y k K (u .0) (u .1) in
-      beyond-decides neg o p P x y g h (v .0) (u .0) k t s K (v .1) (scale-first x y (v .0)) (scale-second x y (u .0)) (u .1)
+      beyond-judges neg o p P x y g h (v .0) (u .0) k t s K (v .1) (scale-first x y (v .0)) (scale-second x y (u .0)) (u .1)
 
-  y-reaches : reaches? t k x ≡ false → Decides (beyond o p y x k t s) Amounts-same
+  y-reaches : reaches? t k x ≡ false → Judges (beyond o p y x k t s) Amounts-same least-answer (beyondAnswer o p y x k t s)
   y-reaches f =
       let u = not-reached t k x f in
       let e = top-swap x y (u .0) in
       let v = other-top y x k K (u .0) (rw e at (u .1)) in
-      swap neg o p s P (beyond o p y x k t s) (x .negative) (y .negative) xl xh yl yh (beyond-decides neg o p P y x h g (v .0) (u .0) k t s K (e ∙ v .1) (scale-second x y (v .0)) (scale-first x y (u .0)) (u .1))
+      swap neg o p s P (beyond o p y x k t s) (beyondAnswer o p y x k t s) (x .negative) (y .negative) xl xh yl yh (beyond-judges neg o p P y x h g (v .0) (u .0) k t s K (e ∙ v .1) (scale-second x y (v .0)) (scale-first x y (u .0)) (u .1))
 
-  amounts-decided : (x .isZero && y .isZero) ≡ false → Decides (decideAt o p x y k) Amounts-same
-  unfolding decideAt
+  amounts-decided : (x .isZero && y .isZero) ≡ false → Judges (decideAt o p x y k) Amounts-same least-answer (answerAt o p x y k)
+  unfolding decideAt answerAt
   amounts-decided some = arm (reaches? t k x) (λ e. arm (reaches? t k y) (both some e) x-reaches) y-reaches
     where
-      arm : (b : Bool) {c d : Bool} {B : Type 0} → (b ≡ true → Decides c B) → (b ≡ false → Decides d B) → Decides (cond b c d) B
+      arm : (b : Bool) {c d : Bool} {B : Type 0} {i u v : Answer} → (b ≡ true → Judges c B i u) → (b ≡ false → Judges d B i v) → Judges (cond b c d) B i (cond b u v)
       arm true m n = m refl
       arm false m n = n refl
 
@@ -297,6 +301,25 @@ module _ (o : Mode) (p : ℕ) (P : 0 < p) (x y : Operand) (g : WellFormed x) (h 
       go false b e f = regular (cc)
       go true false e f = regular (cc)
       go true true e f = record { sound = λ d. read-fixed o p x y g h k (λ d. absurd (true≢false (sym e ∙ d))) (λ d. absurd (true≢false (sym f ∙ d))); complete = λ d. two-zeros o p x y k e f }
+
+  -- ---- the answer, from what is read
+
+  least-shown : (a b : Bool) → ShownBy a b → at o p x y (up x y g h k K (lx x y g h k K) (ly x y g h k K)) (down x y g h k K (lx x y g h k K) (ly x y g h k K)) ≡ leastEnd neg o p s P a b xl xh yl yh
+  least-shown false false v = let i = v .up-low in let j = v .down-low in cc
+  least-shown true true v = let i = v .up-low in let j = v .down-low in cc
+  least-shown false true v = let i = v .up-low in let j = v .down-low in cc
+  least-shown true false v = let i = v .up-low in let j = v .down-low in cc
+
+  -- once fixed, the answer is that of the least end
+  pub fixed-least : Fixed plus o p x y k → add o p x y ≡ least-answer
+  unfolding Fixed result
+  fixed-least f =
+      let l = like-first x y g h k K (x .negative) in
+      let m = like-second x y g h k K (y .negative) in
+      sym (f (lx x y g h k K) (ly x y g h k K) l m) ∙ add-is o p x y k (lx x y g h k K) (ly x y g h k K) l m ∙ least-shown (x .negative) (y .negative) (shown (x .negative) (y .negative) refl refl)
+
+  pub answer-read : (x .isZero && y .isZero) ≡ false → Fixed plus o p x y k → add o p x y ≡ answerAt o p x y k
+  answer-read some f = fixed-least f ∙ amounts-decided some .answered (amounts-decided some .complete (fixed-amounts f))
 
 -- ---- two looks give the depth
 
