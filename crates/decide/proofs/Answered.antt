@@ -1,11 +1,11 @@
--- Once k columns settle it, what is read gives the answer: of the least sum, of the greatest, and of every sum between.
+-- What is read gives the answer: of so many units and perhaps more below them, and where the decision holds of every sum between the ends.
 use mathlib.Core.Path.{_≡_, refl, sym, ap, _∙_}
 use mathlib.Core.Bool.{Bool, true, false, cond, _||_}
-use Prim.Native.Nat.{ℕ, zero, suc, _+_, _-_, _*_, _/_, _%_, _^_, _≤_, _<_, Ordering, Ordering·lt, Ordering·eq, Ordering·gt}
-use native.Mathlib.Nat.{le-trans, le-of-eq, le-of-lt, mul-div-cancel}
+use Prim.Native.Nat.{ℕ, zero, suc, _+_, _-_, _*_, _/_, _%_, _^_, _≤_, _<_, compare, Ordering, Ordering·lt, Ordering·eq, Ordering·gt}
+use native.Mathlib.Nat.{div-add-mod', mod-lt, le-trans, le-of-eq, mul-div-cancel}
 use native.Mathlib.Omega.{arith}
 use borrow.Author.Tests.{eqb-true, eqb-false, ltb-true}
-use lib.Dec.{eqb, ltb}
+use lib.Dec.{eqb}
 use lib.Pow.{pow-pos, pow-add}
 use lib.Ieee.{size}
 use Rattle.rounding.specs.Mode.{Way}
@@ -15,9 +15,10 @@ use Rattle.rounding.specs.Select.{chosen}
 use Rattle.rounding.proofs.Between.{between}
 use Rattle.rounding.proofs.Scale.{digits-shift}
 use Rattle.decide.specs.Decide.{lean, step, carry, enough, settled, settledAnswer, large?, small?, decided, decidedAnswer}
-use Rattle.decide.proofs.Settled.{Span, Enough, enough-true, enough-le, and-true, settled-if, chosen-least, tern-least}
+use Rattle.decide.proofs.Lean.{Part}
+use Rattle.decide.proofs.Settled.{Span, Enough, enough-true, enough-le, and-true, halves, chosen-cut, tern-cut}
 use Rattle.decide.proofs.Carry.{size-enough, size-quot, size-pow, size-pos, size-suc}
-use Rattle.decide.proofs.Range.{Sides, alike-same, large-is, small-is, large-answer, small-answer, decided-if}
+use Rattle.decide.proofs.Range.{Sides, large-is, small-is, large-answer, small-answer, decided-if}
 
 -- ---- the digits of q, or of q + 1
 
@@ -56,7 +57,9 @@ step-pos Ordering·lt q h = h
 step-pos Ordering·eq q h = h
 step-pos Ordering·gt q h = omega arith
 
-module _ (w : Way) (p s : ℕ) (P : 0 < p) (g : Bool) (j n : ℕ) (ml : Bool) (i : ℕ) (mg : Bool) (lo hi : ℕ) (sp : Span j n ml i mg lo hi) (yes : settled w p n ml i mg ≡ true) where
+-- ---- of n cut units, and perhaps some more below them: what lies below is seen only as `more`
+
+module _ (w : Way) (p s : ℕ) (P : 0 < p) (g : Bool) (j n : ℕ) (more : Bool) (a : ℕ) (part : Part more (2 ^ j) a) (e : Enough w p n) where
   abbrev u : ℕ
   u = 2 ^ (size n - p)
 
@@ -64,33 +67,44 @@ module _ (w : Way) (p s : ℕ) (P : 0 < p) (g : Bool) (j n : ℕ) (ml : Bool) (i
   q = n / u
 
   abbrev d : Ordering
-  d = lean w q u (n % u) ml
+  d = lean w q u (n % u) more
 
-  ready : Enough w p n × (n % u + i < u)
-  ready = unfold settled in let a = and-true (enough w p n) _ yes in let b = and-true (ltb (n % u + i) u) _ (a .1) in (enough-true w p n (a .0), ltb-true (n % u + i) u (b .0))
+  abbrev value : ℕ
+  value = n * 2 ^ j + a
 
   size-q : size q ≡ p
-  size-q = size-quot p n P (enough-le w p n (ready .0))
+  size-q = size-quot p n P (enough-le w p n e)
 
-  least-digits : digits p (chosen w p lo) ≡ cond (eqb (step d q) (2 ^ p)) (2 ^ (p - 1)) (step d q)
-  least-digits =
-      ap (digits p) (chosen-least w p P j n ml i mg lo hi sp (ready .0) (ready .1) ∙ ap (λ (z : ℕ). step d q * z) (sym (pow-add 2 (size n - p) j)))
+  n-pos : 0 < n
+  n-pos = size-pos n (le-trans P (enough-le w p n e))
+
+  kept : chosen w p value ≡ step d q * (u * 2 ^ j)
+  kept = chosen-cut w p n j a more n-pos part (enough-le w p n e) q u (n % u) refl (sym (div-add-mod' n u)) (mod-lt n (pow-pos (size n - p))) (halves w p n e)
+
+  ternary : compare (chosen w p value) value ≡ d
+  ternary = tern-cut w p n j a more n-pos part (enough-le w p n e) q u (n % u) refl (sym (div-add-mod' n u)) (mod-lt n (pow-pos (size n - p))) (halves w p n e)
+
+  kept-digits : digits p (chosen w p value) ≡ cond (eqb (step d q) (2 ^ p)) (2 ^ (p - 1)) (step d q)
+  kept-digits =
+      ap (digits p) (kept ∙ ap (λ (z : ℕ). step d q * z) (sym (pow-add 2 (size n - p) j)))
       ∙ digits-shift p (step d q) (size n - p + j) (step-pos d q (size-pos q (le-trans P (le-of-eq (sym size-q))))) ∙ digits-step d p q P size-q
 
-  exponent : size (chosen w p lo) + s ≡ size n + carry w p n ml + (j + s)
-  exponent = sum (size n) (carry w p n ml) (ap (λ (z : ℕ). size (chosen w p z)) (sp .least) ∙ size-enough w p n j (sp .a) ml P (ready .0) (sp .part-least))
+  exponent : size (chosen w p value) + s ≡ size n + carry w p n more + (j + s)
+  exponent = sum (size n) (carry w p n more) (size-enough w p n j a more P e part)
     where
-      sum : (a b : ℕ) {c : ℕ} → c ≡ a + b + j → c + s ≡ a + b + (j + s)
-      sum a b e = omega arith
+      sum : (b c : ℕ) {v : ℕ} → v ≡ b + c + j → v + s ≡ b + c + (j + s)
+      sum b c e = omega arith
 
-  pub least-answer : rounded w p s g lo ≡ settledAnswer w p (j + s) g n ml
+  pub read-answer : rounded w p s g value ≡ settledAnswer w p (j + s) g n more
   unfolding rounded settledAnswer
-  least-answer = let a = least-digits in let b = exponent in let c = tern-least w p P j n ml i mg lo hi sp (ready .0) (ready .1) in cc
+  read-answer = let b = kept-digits in let c = exponent in let f = ternary in cc
 
-  pub settled-answer : (m : ℕ) → lo ≤ m → m ≤ hi → rounded w p s g m ≡ settledAnswer w p (j + s) g n ml
-  settled-answer m h k = between w p s g P lo m hi h k (alike-same w p s g P lo hi (le-of-lt (sp .apart)) (settled-if w p P j n ml i mg lo hi sp yes)) ∙ least-answer
+-- ---- of the least sum, and so of every one, where the decision holds
 
--- with refusals
+settled-enough : (w : Way) (p n : ℕ) (ml : Bool) (i : ℕ) (mg : Bool) → settled w p n ml i mg ≡ true → Enough w p n
+unfolding settled
+settled-enough w p n ml i mg e = enough-true w p n (and-true (enough w p n) _ e .0)
+
 pub decided-answer : (w : Way) (p s : ℕ) (P : 0 < p) (g : Bool) (j n : ℕ) (ml half : Bool) (i : ℕ) (mg : Bool) (tail lo hi : ℕ) (sp : Span j n ml i mg lo hi) → Sides s j n half i tail lo hi → decided w p (j + s) n ml half i mg tail ≡ true
     → (m : ℕ) → lo ≤ m → m ≤ hi → rounded w p s g m ≡ decidedAnswer w p (j + s) g n ml half i mg
 unfolding decided decidedAnswer
@@ -104,6 +118,6 @@ decided-answer w p s P g j n ml half i mg tail lo hi sp si ok m h k =
     third a b c e f g = sym (rw (f, g)) ∙ e
 
     go : (b c : Bool) → settled w p n ml i mg ≡ b → large? w p (j + s) n ml half ≡ c → rounded w p s g lo ≡ cond b (settledAnswer w p (j + s) g n ml) (cond c tooLarge tooSmall)
-    go true c e f = least-answer w p s P g j n ml i mg lo hi sp e
+    go true c e f = ap (rounded w p s g) (sp .least) ∙ read-answer w p s P g j n ml (sp .a) (sp .part-least) (settled-enough w p n ml i mg e)
     go false true e f = large-answer w p s g P lo (ltb-true mostExponent (size (chosen w p lo) + s) (sym (large-is w p s P j n ml half i mg tail lo hi sp si) ∙ f))
     go false false e f = ends ∙ small-answer w p s g P hi (ltb-true (size (chosen w p hi) + s) leastExponent (sym (small-is w p s P j n ml half i mg tail lo hi sp si) ∙ third (settled w p n ml i mg) (large? w p (j + s) n ml half) (small? w p (j + s) (n + i) mg tail) ok e f))

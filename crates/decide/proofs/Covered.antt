@@ -4,7 +4,7 @@ use mathlib.Core.Path.{_≡_, refl, sym, ap, _∙_, subst}
 use mathlib.Core.Logic.{inl, inr}
 use mathlib.Core.Bool.{Bool, true, false}
 use Prim.Native.Nat.{ℕ, zero, suc, _+_, _-_, _*_, _^_, _≤_, _<_, compare, Ordering, Ordering·lt, Ordering·eq, Ordering·gt}
-use native.Mathlib.Nat.{le-trans, le-of-eq, le-of-lt, lt-of-lt-of-le, lt-of-le-of-lt, lt-of-mul-lt-mul-right, mul-lt-mul-of-pos-right, mul-le-mul-right, mul-comm, mul-sub, mul-assoc, pow-succ', add-comm, add-mul}
+use native.Mathlib.Nat.{le-trans, le-of-eq, le-of-lt, lt-of-lt-of-le, lt-of-le-of-lt, lt-of-mul-lt-mul-right, mul-lt-mul-of-pos-right, mul-le-mul-right, mul-assoc, pow-succ', add-comm, add-mul}
 use native.Mathlib.Omega.{arith}
 use lib.Pow.{pow-pos, pow-mono, pow-add}
 use Rattle.number.specs.Operand.{Operand, lastWeight, WellFormed}
@@ -16,20 +16,20 @@ use Rattle.rounding.proofs.Selection.{Rep}
 use Rattle.rounding.proofs.Ends.{plus as positive, minus as negative}
 use Rattle.depth.specs.Columns.{topExponent}
 use Rattle.depth.specs.Read.{unread}
-use Rattle.depth.specs.Depth.{plus, result, Fixed}
+use Rattle.depth.specs.Depth.{plus, Fixed}
 use Rattle.decide.specs.Decide.{reaches?, readPart, leftOver}
 use Rattle.depth.proofs.Columns.{digits-counted}
 use Rattle.depth.proofs.Place.{top-swap, top-first, top-second, scale-first, scale-second, other-top}
 use Rattle.depth.proofs.Reach.{end, at-most}
 use Rattle.depth.proofs.Amounts.{amount-end}
-use Rattle.depth.proofs.EndsDecide.{like-first, like-second, lx, ly, up, down, add-is}
+use Rattle.depth.proofs.EndsDecide.{up}
 use Rattle.decide.proofs.Settled.{rep-between}
 use Rattle.decide.proofs.Range.{large-answer, small-answer, same-cases}
 use Rattle.decide.proofs.Rows.{sub-mul, Seen, seen-le, last-half}
 use Rattle.decide.proofs.RowsFar.{Unseen}
 use Rattle.decide.proofs.Pair.{Ends, Pair, leastEnd}
 use Rattle.decide.proofs.ReadPart.{unseen-cut, unseen-is}
-use Rattle.decide.proofs.Decision.{reached, ReadIn, read-in, not-reached, left-is, read-nil, ShownBy, shown, fixed-amounts, fixed-least}
+use Rattle.decide.proofs.Decision.{reached, ReadIn, read-in, not-reached, left-is, read-nil, fixed-amounts, fixed-least}
 
 -- neither refusal
 pub record Accepted (a : Answer) : Type 0 where

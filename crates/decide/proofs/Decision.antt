@@ -241,7 +241,7 @@ module _ (o : Mode) (p : ℕ) (P : 0 < p) (x y : Operand) (g : WellFormed x) (h 
   ShownBy false true = Shown xl yh xh yl
   ShownBy true false = Shown yl xh yh xl
 
-  pub shown : (a b : Bool) → x .negative ≡ a → y .negative ≡ b → ShownBy a b
+  shown : (a b : Bool) → x .negative ≡ a → y .negative ≡ b → ShownBy a b
   shown false false e f = record {
     up-low = both-sum (x-own false (x .negative) false e e) (y-own false (y .negative) false f f);
     down-low = plus-zero (x-other true (x .negative) e) (y-other true (y .negative) f);

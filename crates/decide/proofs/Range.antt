@@ -55,14 +55,14 @@ module _ (w : Way) (p s : ℕ) (g : Bool) (P : 0 < p) (lo hi : ℕ) (le : lo ≤
       go : {x y : ℕ} → x ≤ y → x + s ≤ y + s
       go h = omega arith
 
-  pub alike-same : Alike w p lo hi → at lo ≡ at hi
+  alike-same : Alike w p lo hi → at lo ≡ at hi
   unfolding rounded
   alike-same e = let a = e .number in let b = e .tern in cc
 
-  pub large-same : mostExponent < ex lo → at lo ≡ at hi
+  large-same : mostExponent < ex lo → at lo ≡ at hi
   large-same h = at-is lo ∙ is-large (ex lo) (reg lo) h ∙ sym (at-is hi ∙ is-large (ex hi) (reg hi) (lt-of-lt-of-le h ex-le))
 
-  pub small-same : ex hi < leastExponent → at lo ≡ at hi
+  small-same : ex hi < leastExponent → at lo ≡ at hi
   small-same h = at-is lo ∙ is-small (ex lo) (reg lo) (lt-of-le-of-lt ex-le h) ∙ sym (at-is hi ∙ is-small (ex hi) (reg hi) h)
 
   reg-same : reg lo ≡ reg hi → Alike w p lo hi

@@ -55,7 +55,7 @@ module _ (w : Way) (p v q u r : ℕ) (is : v ≡ q * u + r) (lt : r < u) (unit-i
   unfolding chosen onGrid
   chosen-at = ap (λ (z : ℕ). quotient w v z * z) unit-is ∙ ap (λ (z : ℕ). quotient w z u * u) is ∙ ap (λ (z : ℕ). z * u) (quot-lean w q u r lt)
 
-  pub tern-at : compare (chosen w p v) v ≡ lean w q u r false
+  tern-at : compare (chosen w p v) v ≡ lean w q u r false
   tern-at = ap (λ (z : ℕ). compare z v) chosen-at ∙ ap (compare (step (lean w q u r false) q * u)) is ∙ tern-lean w q u r lt
 
 -- of m = q * u + r cut units, and more: what lies below the cut is seen only as `more`
@@ -236,16 +236,16 @@ module _ (w : Way) (p : ℕ) (P : 0 < p) (j n : ℕ) (ml : Bool) (i : ℕ) (mg :
     unit-most : 2 ^ (size (n + i) - p) ≡ u
     unit-most = ap (λ (z : ℕ). 2 ^ (z - p)) one-size
 
-    pub chosen-least : chosen w p lo ≡ step first q * (u * 2 ^ j)
+    chosen-least : chosen w p lo ≡ step first q * (u * 2 ^ j)
     chosen-least = ap (chosen w p) (s .least) ∙ chosen-cut w p n j (s .a) ml n-pos (s .part-least) (enough-le w p n e) q u r refl n-is r-lt (halves w p n e)
 
-    pub tern-least : compare (chosen w p lo) lo ≡ first
+    tern-least : compare (chosen w p lo) lo ≡ first
     tern-least = ap (λ (z : ℕ). compare (chosen w p z) z) (s .least) ∙ tern-cut w p n j (s .a) ml n-pos (s .part-least) (enough-le w p n e) q u r refl n-is r-lt (halves w p n e)
 
-    pub chosen-most : chosen w p hi ≡ step last q * (u * 2 ^ j)
+    chosen-most : chosen w p hi ≡ step last q * (u * 2 ^ j)
     chosen-most = ap (chosen w p) (s .most) ∙ chosen-cut w p (n + i) j (s .b) mg some-most (s .part-most) fits q u (r + i) unit-most more-is room (halves w p n e)
 
-    pub tern-most : compare (chosen w p hi) hi ≡ last
+    tern-most : compare (chosen w p hi) hi ≡ last
     tern-most = ap (λ (z : ℕ). compare (chosen w p z) z) (s .most) ∙ tern-cut w p (n + i) j (s .b) mg some-most (s .part-most) fits q u (r + i) unit-most more-is room (halves w p n e)
 
     alike-if : first ≡ last → Alike w p lo hi

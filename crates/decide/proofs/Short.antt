@@ -107,7 +107,7 @@ module _ (w : Way) (p n j : ℕ) (P : 0 < p) (M : 0 < n) (few : size n ≤ p) wh
   n-rep : Rep p (n * C)
   n-rep = full p j n P (le-of-lt (lt-of-lt-of-le (size-lt n) (pow-mono few)))
 
-  pub next-rep : Rep p (suc n * C)
+  next-rep : Rep p (suc n * C)
   next-rep = full p j (suc n) P (lt-of-lt-of-le (size-lt n) (pow-mono few))
 
   pub at-least : (v : Way) (a : ℕ) → size n + j ≤ size (chosen v p (n * C + a))

@@ -1,6 +1,6 @@
 -- What is known of the decision, over all well-formed operands, for sums and differences, gathered for a reader; the proofs stand in the files that are cited.
 use mathlib.Core.Path.{_≡_, _∙_, subst}
-use mathlib.Core.Bool.{false}
+use mathlib.Core.Bool.{false, _&&_}
 use Prim.Native.Nat.{ℕ, _+_, _*_, _≤_, _<_}
 use Rattle.number.specs.Operand.{Operand, WellFormed}
 use Rattle.rounding.specs.Mode.{Mode}
@@ -9,9 +9,9 @@ use Rattle.depth.specs.Read.{unread}
 use Rattle.depth.specs.Depth.{Operation, result, Fixed}
 use Rattle.depth.proofs.Subtract.{addend, addend-well-formed, addend-exponent, addend-zero, result-is, top-is, like-sum, like-second-sum, fixed-result, fixed-sum}
 use Rattle.depth.proofs.Theorems.{unread-addend}
-use Rattle.decide.specs.Decide.{reaches?, leftOver, decideAt}
+use Rattle.decide.specs.Decide.{reaches?, leftOver, decideAt, answerAt}
 use Rattle.decide.proofs.Pair.{Decides}
-use Rattle.decide.proofs.Decision.{decides-fixed, decides-read}
+use Rattle.decide.proofs.Decision.{decides-fixed, decides-read, answer-read}
 use Rattle.decide.proofs.Covered.{Accepted, covers}
 use Rattle.decide.proofs.HoleVerdict.{InHole, hole-same}
 
@@ -34,6 +34,11 @@ module _ (f : Operation) (o : Mode) (p : ℕ) (P : 0 < p) (x y : Operand) (g : W
     sound = λ e. fixed-result f o p x y k (decides-fixed o p P x (addend f y) g second k K .sound e);
     complete = λ u. decides-fixed o p P x (addend f y) g second k K .complete (fixed-sum f o p x y k u);
   }
+
+  -- ---- where it holds, what is read gives the answer
+
+  pub answer-is-read : (x .isZero && y .isZero) ≡ false → (k : ℕ) → 1 ≤ k → Fixed f o p x y k → result f o p x y ≡ answerAt o p x (addend f y) k
+  answer-is-read some k K u = result-is f o p x y ∙ answer-read o p P x (addend f y) g second k K (let a = addend-zero f y in cc) (fixed-sum f o p x y k u)
 
   -- pairs that agree in k columns get one decision
   pub decision-reads : (k : ℕ) (z w : Operand) → Like (topExponent x y) k x z → Like (topExponent x y) k y w → decideAt o p z (addend f w) k ≡ decideAt o p x (addend f y) k

@@ -33,7 +33,7 @@ module _ (t k s : ℕ) (x z : Operand) (g : WellFormed x) (top : x .isZero ≡ f
       go true r = amount-nil s z (l .isZero ∙ r) ∙ sym (amount-nil s x r)
       go false r = let a = mantissa-same r in let b = low-like t k x z l in amount-is s z (l .isZero ∙ r) ∙ ap (λ (v : ℕ). v * 2 ^ (lastWeight z - s)) a ∙ ap (λ (v : ℕ). mantissa x * 2 ^ (v - s)) b ∙ sym (amount-is s x r)
 
-  pub share-same : (b : Bool) → share b s z ≡ share b s x
+  share-same : (b : Bool) → share b s z ≡ share b s x
   unfolding share
   share-same b = let a = amount-same in let c = l .negative in cc
 

@@ -129,7 +129,7 @@ module _ (o : Mode) (p : ℕ) (P : 0 < p) (x y : Operand) (g : WellFormed x) (h 
       second : (a b i : ℕ) {c : ℕ} → max a (b + i) ≤ c → i + b ≤ c
       second a b i h = omega arith
 
-  pub larger-fixed : Fixed plus o p x y (boundOf p m n d)
+  larger-fixed : Fixed plus o p x y (boundOf p m n d)
   unfolding boundOf
   larger-fixed = go (leb (64 * farColumns p m) d) refl
     where

@@ -156,7 +156,7 @@ module _ (w : Way) (p s : ℕ) (n : Bool) (g c : ℕ) (room : 2 ^ (p + c) ≤ g 
         under : {z : ℕ} → p + c < z → c ≤ z
         under h = omega arith
 
-    pub one-chosen : chosen w p (g * 2 ^ c + i) ≡ chosen w p (g * 2 ^ c + j)
+    one-chosen : chosen w p (g * 2 ^ c + i) ≡ chosen w p (g * 2 ^ c + j)
     unfolding chosen onGrid half
     one-chosen =
         let f = half i in

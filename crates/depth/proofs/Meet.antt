@@ -40,14 +40,14 @@ module _ (t k s : ℕ) (x : Operand) (g : WellFormed x) (r : x .isZero ≡ false
   abbrev cut : ℕ
   cut = (t - 64 * k) - s
 
-  pub weights : t ≡ d + (x .precision + (a + s))
+  weights : t ≡ d + (x .precision + (a + s))
   unfolding lastWeight
   weights = go (digits-counted x g r) sc
     where
       go : x .precision ≤ x .exponent → s ≤ x .exponent - x .precision → t ≡ (t - x .exponent) + (x .precision + (x .exponent - x .precision - s + s))
       go h k = omega arith
 
-  pub over-cut : d < 64 * k → cut ≤ unread t k x + a
+  over-cut : d < 64 * k → cut ≤ unread t k x + a
   unfolding unread
   over-cut seen = subst (λ (z : ℕ). z - 64 * k - s ≤ unread t k x + a) (sym weights) (cut-le (x .precision) d s a (64 * k) seen)
 
@@ -91,7 +91,7 @@ module _ (t k s : ℕ) (x : Operand) (g : WellFormed x) (r : x .isZero ≡ false
   pub low-grid : d < 64 * k → digitsAt t k x false * 2 ^ a ≡ grid * 2 ^ cut
   low-grid seen = ap (λ (z : ℕ). z * 2 ^ a) (least-is seen) ∙ base-grid seen
 
-  pub high-grid : d < 64 * k → digitsAt t k x true * 2 ^ a < suc grid * 2 ^ cut
+  high-grid : d < 64 * k → digitsAt t k x true * 2 ^ a < suc grid * 2 ^ cut
   unfolding digitsAt
   high-grid seen =
       let u = unread t k x in
@@ -102,14 +102,14 @@ module _ (t k s : ℕ) (x : Operand) (g : WellFormed x) (r : x .isZero ≡ false
       go b v g c e h k f = omega arith
 
   -- nothing is read: x stays below the first column's last weight
-  pub unseen-lt : 64 * k ≤ d → 1 ≤ k → digitsAt t k x true * 2 ^ a < 2 ^ (t - 1 - s)
+  unseen-lt : 64 * k ≤ d → 1 ≤ k → digitsAt t k x true * 2 ^ a < 2 ^ (t - 1 - s)
   unseen-lt h K = lt-of-lt-of-le (mul-lt-mul-of-pos-right (at-most t k x g r true) (pow-pos a)) (le-trans (le-of-eq (sym (pow-add 2 (x .precision) a))) (pow-mono (go d (x .precision) a weights h)))
     where
       go : (d p a : ℕ) → t ≡ d + (p + (a + s)) → 64 * k ≤ d → p + a ≤ t - 1 - s
       go d p a e h = omega arith
 
   -- x stands at the top: it reaches that weight
-  pub top-ge : t ≡ x .exponent → 2 ^ (t - 1 - s) ≤ digitsAt t k x false * 2 ^ a
+  top-ge : t ≡ x .exponent → 2 ^ (t - 1 - s) ≤ digitsAt t k x false * 2 ^ a
   top-ge e = le-trans (pow-mono (go d (x .precision) a weights (flat (x .exponent) e) (precision-two x g))) (le-trans (le-of-eq (pow-add 2 (x .precision - 1) a)) (mul-le-mul-right (2 ^ a) (at-least t k x g r false)))
     where
       flat : (v : ℕ) → t ≡ v → t - v ≡ 0

@@ -35,7 +35,7 @@ top-first x y r = go (y .isZero) refl
 pub top-second : (x y : Operand) → y .isZero ≡ false → y .exponent ≤ topExponent x y
 top-second x y q = le-trans (top-first y x q) (le-of-eq (top-swap y x q))
 
-pub scale-swap : (x y : Operand) → x .isZero ≡ false → scale x y ≡ scale y x
+scale-swap : (x y : Operand) → x .isZero ≡ false → scale x y ≡ scale y x
 unfolding scale lastWeight
 scale-swap x y r = go (y .isZero) refl
   where
