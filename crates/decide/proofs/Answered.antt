@@ -14,7 +14,9 @@ use Rattle.number.specs.Limits.{leastExponent, mostExponent}
 use Rattle.rounding.specs.Select.{chosen}
 use Rattle.rounding.proofs.Between.{between}
 use Rattle.rounding.proofs.Scale.{digits-shift}
-use Rattle.decide.specs.Decide.{lean, step, carry, enough, settled, settledAnswer, large?, small?, decided, decidedAnswer}
+use Rattle.decide.specs.Class.{lean, step, enough, settled}
+use Rattle.decide.specs.Range.{carry, large?, small?, decided}
+use Rattle.decide.specs.Answer.{settledAnswer, decidedAnswer}
 use Rattle.decide.proofs.Lean.{Part}
 use Rattle.decide.proofs.Settled.{Span, Enough, enough-true, enough-le, and-true, halves, chosen-cut, tern-cut}
 use Rattle.decide.proofs.Carry.{size-enough, size-quot, size-pow, size-pos, size-suc}

@@ -17,7 +17,9 @@ use Rattle.number.proofs.Digits.{mantissa-lt, mantissa-ge, precision-two}
 use Rattle.depth.proofs.Reach.{digitsAt, end}
 use Rattle.depth.proofs.Amounts.{amount-end}
 use Rattle.depth.proofs.Meet.{least-is}
-use Rattle.decide.specs.Decide.{some?, readDigits, readPart, beyond, farPair, holePair, holeBySize, farAnswer, holeAnswer, beyondAnswer}
+use Rattle.decide.specs.Table.{some?, farPair, holePair, holeBySize}
+use Rattle.decide.specs.Decide.{readDigits, readPart, beyond}
+use Rattle.decide.specs.Answer.{farAnswer, holeAnswer, beyondAnswer}
 use Rattle.decide.proofs.Rows.{Seen, Held}
 use Rattle.decide.proofs.Pair.{Judges, Pair, leastEnd, seen-read, far-pair, hole-pair}
 use Rattle.decide.proofs.HoleTest.{hole-pair-is}

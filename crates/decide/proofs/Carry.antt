@@ -16,7 +16,8 @@ use Rattle.rounding.specs.Select.{chosen}
 use Rattle.rounding.proofs.Order.{le-or-lt, size-mono}
 use Rattle.rounding.proofs.Even.{size-is, size-ge}
 use Rattle.rounding.proofs.Scale.{size-shift}
-use Rattle.decide.specs.Decide.{lean, step, bump, carry}
+use Rattle.decide.specs.Class.{lean, step}
+use Rattle.decide.specs.Range.{bump, carry}
 use Rattle.decide.proofs.Lean.{zero-or, Part}
 use Rattle.decide.proofs.Settled.{Enough, enough-le, halves, chosen-cut}
 

@@ -11,7 +11,10 @@ use Rattle.rounding.specs.Mode.{nearest, zeroward, upward, downward, way}
 use Rattle.rounding.specs.Sum.{scale}
 use Rattle.depth.specs.Columns.{topExponent}
 use Rattle.depth.specs.Read.{unread}
-use Rattle.decide.specs.Decide.{tie, off, lean, step, enough, settled, bump, carry, shortLeast, shortMost, large?, small?, orLarge, orSmall, sameSigns, unlikeSigns, farSame, farUnlike, sameRow, unlikeRow, farSameRow, farUnlikeRow, unlikePair, seenPair, farPair, hole?, holeBySize, reaches?, readDigits, readPart, leftOver, beyond, decideAt}
+use Rattle.decide.specs.Class.{tie, off, lean, step, enough, settled}
+use Rattle.decide.specs.Range.{bump, carry, shortLeast, shortMost, large?, small?, orLarge, orSmall}
+use Rattle.decide.specs.Table.{sameSigns, unlikeSigns, farSame, farUnlike, sameRow, unlikeRow, farSameRow, farUnlikeRow, unlikePair, seenPair, farPair, hole?, holeBySize}
+use Rattle.decide.specs.Decide.{reaches?, readDigits, readPart, leftOver, beyond, decideAt}
 
 -- ---- regular numbers of one limb and of two
 

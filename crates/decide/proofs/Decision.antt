@@ -21,7 +21,9 @@ use Rattle.depth.proofs.Amounts.{low-like}
 use Rattle.depth.proofs.EndsDecide.{lx, ly, up, down, like-first, like-second, at, add-is, Alike, own-first, own-second, other-first, other-second, fixed-if, fixed-or}
 use Rattle.depth.proofs.Least.{not-both}
 use Rattle.depth.proofs.AllRead.{read-fixed}
-use Rattle.decide.specs.Decide.{sameSigns, unlikePair, reaches?, readDigits, readPart, leftOver, beyond, seenPair, decideAt, seenAnswer, beyondAnswer, answerAt}
+use Rattle.decide.specs.Table.{sameSigns, unlikePair, seenPair}
+use Rattle.decide.specs.Decide.{reaches?, readDigits, readPart, leftOver, beyond, decideAt}
+use Rattle.decide.specs.Answer.{seenAnswer, beyondAnswer, answerAt}
 use Rattle.decide.proofs.Rows.{Seen, Held}
 use Rattle.decide.proofs.Pair.{Decides, Judges, Ends, Pair, leastEnd, seen-pair}
 use Rattle.decide.proofs.ReadPart.{seen-is, seen-held, seen-pos, nil-seen, nil-held}

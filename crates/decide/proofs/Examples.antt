@@ -21,7 +21,8 @@ use Rattle.rounding.proofs.Scale.{exact}
 use Rattle.depth.specs.Columns.{topExponent, limbsUsed}
 use Rattle.depth.specs.Read.{unread}
 use Rattle.depth.specs.Depth.{plus, Deciding}
-use Rattle.decide.specs.Decide.{sameSigns, seenPair, reaches?, leftOver, decideAt}
+use Rattle.decide.specs.Table.{sameSigns, seenPair}
+use Rattle.decide.specs.Decide.{reaches?, leftOver, decideAt}
 use Rattle.decide.proofs.Corners.{mid, top, dented, short, long, next, half, corners}
 use Rattle.decide.proofs.Decision.{depth-decided}
 

@@ -17,7 +17,9 @@ use Rattle.rounding.proofs.Even.{size-is}
 use Rattle.rounding.proofs.Scale.{size-shift}
 use Rattle.decide.proofs.Settled.{size-part}
 use Rattle.decide.proofs.Lean.{zero-or, lean-exact, lean-rest, lean-more}
-use Rattle.decide.specs.Decide.{some?, tie, off, lean, alike, enough, settled, bump, carry, shortLeast, large?, small?, decided, holeSame, holeUnlike, holeSameRow, holeUnlikeRow, holePair, holeBySize, odd?, hole?}
+use Rattle.decide.specs.Class.{tie, off, lean, alike, enough, settled}
+use Rattle.decide.specs.Range.{bump, carry, shortLeast, large?, small?, decided}
+use Rattle.decide.specs.Table.{some?, holeSame, holeUnlike, holeSameRow, holeUnlikeRow, holePair, holeBySize, odd?, hole?}
 
 -- the part of `settled` behind `enough`
 abbrev inner : Way → ℕ → ℕ → ℕ → Bool → ℕ → Bool → Bool

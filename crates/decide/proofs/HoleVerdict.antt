@@ -9,7 +9,8 @@ use Rattle.rounding.specs.Mode.{Mode}
 use Rattle.depth.specs.Columns.{topExponent}
 use Rattle.depth.specs.Read.{unread}
 use Rattle.depth.specs.Depth.{plus, Fixed}
-use Rattle.decide.specs.Decide.{some?, readDigits, beyond, holeBySize, decideAt}
+use Rattle.decide.specs.Table.{some?, holeBySize}
+use Rattle.decide.specs.Decide.{readDigits, beyond, decideAt}
 use Rattle.depth.proofs.Place.{other-top}
 use Rattle.decide.proofs.Beyond.{digits-are}
 use Rattle.decide.proofs.Decision.{reached, not-reaching, decides-fixed}

@@ -15,7 +15,10 @@ use Rattle.number.specs.Limits.{leastExponent, mostExponent}
 use Rattle.rounding.proofs.Order.{Cmp, cmp, compare-at, size-mono}
 use Rattle.decide.proofs.Lean.{zero-or}
 use Rattle.rounding.proofs.Ends.{plus as positive, minus as negative, nought}
-use Rattle.decide.specs.Decide.{sameAnswer, unlikeAnswer, unlikePairAnswer, seenAnswer, farAnswer, holeAnswer, decidedAnswer, some?, allRead, settled, decided, orLarge, orSmall, sameRow, unlikeRow, farSameRow, farUnlikeRow, holeSameRow, holeUnlikeRow, sameSigns, unlikeSigns, unlikePair, seenPair, farSame, farUnlike, holeSame, holeUnlike, farPair, holePair}
+use Rattle.decide.specs.Class.{settled}
+use Rattle.decide.specs.Range.{decided, orLarge, orSmall}
+use Rattle.decide.specs.Table.{some?, allRead, sameRow, unlikeRow, farSameRow, farUnlikeRow, holeSameRow, holeUnlikeRow, sameSigns, unlikeSigns, unlikePair, seenPair, farSame, farUnlike, holeSame, holeUnlike, farPair, holePair}
+use Rattle.decide.specs.Answer.{sameAnswer, unlikeAnswer, unlikePairAnswer, seenAnswer, farAnswer, holeAnswer, decidedAnswer}
 use Rattle.decide.proofs.Settled.{Span}
 use Rattle.decide.proofs.Range.{Sides, decided-if, decided-only, only-large, only-small, no-refusal}
 use Rattle.rounding.proofs.Scale.{rounded-shift}

@@ -18,7 +18,8 @@ use Rattle.rounding.proofs.Order.{le-or-lt, size-mono, compare-at}
 use Rattle.rounding.proofs.Selection.{chosen-rep, chosen-mono, full}
 use Rattle.rounding.proofs.Between.{is-large, is-small, is-in, digits-one, turned-one}
 use Rattle.rounding.proofs.Scale.{exact, size-shift}
-use Rattle.decide.specs.Decide.{enough, settled, carry, shortLeast, shortMost, large?, small?, decided, orLarge, orSmall}
+use Rattle.decide.specs.Class.{enough, settled}
+use Rattle.decide.specs.Range.{carry, shortLeast, shortMost, large?, small?, decided, orLarge, orSmall}
 use Rattle.decide.proofs.Settled.{Alike, Span, Enough, enough-or, enough-true, part-lt, settled-if, settled-only}
 use Rattle.decide.proofs.Carry.{size-enough, size-pow}
 use Rattle.decide.proofs.Short.{at-least, size-least-short, size-most-short}

@@ -12,7 +12,7 @@ use lib.Ieee.{size}
 use Rattle.number.specs.Limits.{leastExponent, mostExponent}
 use Rattle.rounding.proofs.Order.{size-mono}
 use Rattle.decide.proofs.Lean.{Part, zero-or}
-use Rattle.decide.specs.Decide.{some?}
+use Rattle.decide.specs.Table.{some?}
 use Rattle.decide.proofs.Settled.{Span}
 use Rattle.decide.proofs.Range.{Sides}
 

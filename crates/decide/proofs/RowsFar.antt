@@ -10,7 +10,7 @@ use lib.Dec.{ltb, eqb}
 use lib.Pow.{pow-pos, pow-mono}
 use Rattle.rounding.proofs.Order.{size-mono}
 use Rattle.decide.proofs.Lean.{Part}
-use Rattle.decide.specs.Decide.{some?}
+use Rattle.decide.specs.Table.{some?}
 use Rattle.decide.proofs.Settled.{Span}
 use Rattle.decide.proofs.Range.{Sides}
 use Rattle.decide.proofs.Rows.{Seen, Held, whole, last-one, last-half, last-quarter}

@@ -16,7 +16,7 @@ use Rattle.rounding.specs.Select.{quotient, unit, chosen, onGrid}
 use Rattle.rounding.proofs.Selection.{Rep, full, chosen-mono}
 use Rattle.rounding.proofs.Order.{le-or-lt, Cmp, cmp, compare-at, size-mono}
 use Rattle.rounding.proofs.Scale.{exact, size-shift}
-use Rattle.decide.specs.Decide.{tie, off, lean, step, alike, enough, settled}
+use Rattle.decide.specs.Class.{tie, off, lean, step, alike, enough, settled}
 use Rattle.decide.proofs.Lean.{zero-or, Part, Halves, lean-exact, lean-rest, lean-scale, quot-lean, tern-lean}
 
 -- selected alike, with the same ternary value

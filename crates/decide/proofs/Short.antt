@@ -16,7 +16,8 @@ use Rattle.rounding.proofs.Selection.{Rep, full, chosen-mono, under-le}
 use Rattle.rounding.proofs.Order.{le-or-lt, compare-at, size-mono}
 use Rattle.rounding.proofs.Even.{size-is}
 use Rattle.rounding.proofs.Scale.{exact, size-shift, chosen-shift}
-use Rattle.decide.specs.Decide.{tie, off, lean, step, bump, shortLeast, shortMost}
+use Rattle.decide.specs.Class.{tie, off, lean, step}
+use Rattle.decide.specs.Range.{bump, shortLeast, shortMost}
 use Rattle.decide.proofs.Lean.{zero-or, lean-exact, lean-rest}
 use Rattle.decide.proofs.Settled.{Enough, size-part, unit-part, chosen-at}
 use Rattle.decide.proofs.Carry.{size-bump, size-pow}

@@ -9,7 +9,8 @@ use Rattle.depth.specs.Read.{unread}
 use Rattle.depth.specs.Depth.{Operation, result, Fixed}
 use Rattle.depth.proofs.Subtract.{addend, addend-well-formed, addend-exponent, addend-zero, result-is, top-is, like-sum, like-second-sum, fixed-result, fixed-sum}
 use Rattle.depth.proofs.Theorems.{unread-addend}
-use Rattle.decide.specs.Decide.{reaches?, leftOver, decideAt, answerAt}
+use Rattle.decide.specs.Decide.{reaches?, leftOver, decideAt}
+use Rattle.decide.specs.Answer.{answerAt}
 use Rattle.decide.proofs.Pair.{Decides}
 use Rattle.decide.proofs.Decision.{decides-fixed, decides-read, answer-read}
 use Rattle.decide.proofs.Covered.{Accepted, covers}
