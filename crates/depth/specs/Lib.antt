@@ -1,2 +1,4 @@
 pub mod Columns
 pub mod Depth
+pub mod Read
+pub mod Bound

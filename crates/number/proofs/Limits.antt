@@ -10,7 +10,12 @@ pub two-digits : 2 ≤ leastPrecision
 unfolding leastPrecision
 two-digits = omega arith
 
--- the range of exponents is not empty
+-- the range of precisions is not empty
+pub precisions-some : leastPrecision ≤ mostPrecision
+unfolding leastPrecision mostPrecision
+precisions-some = omega arith
+
+-- nor is that of exponents
 pub range-some : leastExponent ≤ mostExponent
 unfolding leastExponent mostExponent bias
 range-some = omega arith

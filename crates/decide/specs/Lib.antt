@@ -1,0 +1,5 @@
+pub mod Class
+pub mod Range
+pub mod Table
+pub mod Decide
+pub mod Answer

@@ -1,0 +1,1 @@
+// The decision whether k columns fix the answer: definitions in specs/, their proof in proofs/.

@@ -1,0 +1,16 @@
+pub mod Columns
+pub mod Place
+pub mod Reach
+pub mod Amounts
+pub mod Meet
+pub mod EndsDecide
+pub mod Least
+pub mod Subtract
+pub mod AllRead
+pub mod Hole
+pub mod Far
+pub mod Bounds
+pub mod Used
+pub mod Another
+pub mod ExactRead
+pub mod Theorems

@@ -1,0 +1,47 @@
+-- The limbs used of an operand: no more than it has, and no fewer for more columns.
+use mathlib.Core.Path.{_≡_, refl}
+use mathlib.Core.Bool.{Bool, true, false, cond}
+use Prim.Native.Nat.{ℕ, _+_, _-_, _*_, _/_, _≤_, _<_, min, zero-le}
+use native.Mathlib.Omega.{arith}
+use borrow.Author.Tests.{leb-true, leb-false}
+use lib.Dec.{leb}
+use Rattle.number.specs.Limits.{limbsFor}
+use Rattle.number.specs.Operand.{Operand}
+use Rattle.depth.specs.Columns.{limbsUsed}
+
+least-of : (a b : ℕ) → min a b ≤ a
+least-of a b = omega arith
+
+pub used-most : (t k : ℕ) (x : Operand) → limbsUsed t k x ≤ limbsFor (x .precision)
+unfolding limbsUsed
+used-most t k x = go (x .isZero) (leb (64 * k) (t - x .exponent))
+  where
+    go : (a b : Bool) → cond a 0 (cond b 0 (min (limbsFor (x .precision)) ((64 * k - (t - x .exponent) + 63) / 64))) ≤ limbsFor (x .precision)
+    go true b = zero-le
+    go false true = zero-le
+    go false false = least-of (limbsFor (x .precision)) ((64 * k - (t - x .exponent) + 63) / 64)
+
+pub used-mono : (t j k : ℕ) (x : Operand) → j ≤ k → limbsUsed t j x ≤ limbsUsed t k x
+unfolding limbsUsed
+used-mono t j k x h = go (x .isZero) (leb (64 * j) (t - x .exponent)) (leb (64 * k) (t - x .exponent)) refl refl
+  where
+    of : ℕ → ℕ
+    of n = min (limbsFor (x .precision)) ((64 * n - (t - x .exponent) + 63) / 64)
+
+    more : (L d : ℕ) → min L ((64 * j - d + 63) / 64) ≤ min L ((64 * k - d + 63) / 64)
+    more L d = min-mono L ((64 * j - d + 63) / 64) ((64 * k - d + 63) / 64) (columns d)
+      where
+        columns : (d : ℕ) → (64 * j - d + 63) / 64 ≤ (64 * k - d + 63) / 64
+        columns d = omega arith
+
+        min-mono : (a b c : ℕ) → b ≤ c → min a b ≤ min a c
+        min-mono a b c h = omega arith
+
+    clash : (d : ℕ) → d < 64 * j → 64 * k ≤ d → ⊥
+    clash d a b = omega arith
+
+    go : (a b c : Bool) → leb (64 * j) (t - x .exponent) ≡ b → leb (64 * k) (t - x .exponent) ≡ c → cond a 0 (cond b 0 (of j)) ≤ cond a 0 (cond c 0 (of k))
+    go true b c e f = zero-le
+    go false true c e f = zero-le
+    go false false true e f = absurd (clash (t - x .exponent) (leb-false _ _ e) (leb-true _ _ f))
+    go false false false e f = more (limbsFor (x .precision)) (t - x .exponent)
