@@ -36,8 +36,8 @@ unfoldable pub precisionHolds : ℕ → Bool
 precisionHolds p = leb leastPrecision p && leb p mostPrecision
 
 -- 3: "a limb slice not of L limbs"
-unfoldable pub lengthHolds : ℕ → List ℕ → Bool
-lengthHolds p l = eqb (length l) (limbsFor p)
+unfoldable pub lengthHolds : ℕ → ℕ → Bool
+lengthHolds p n = eqb n (limbsFor p)
 
 -- 4: "regular exponent out of range, or a zero's exponent not 0"
 unfoldable pub exponentHolds : Operand → Bool
@@ -53,32 +53,32 @@ spareBitsHold p l = eqb (getD l 0 0 % 2 ^ spareBits p) 0
 unfoldable pub formHolds : Operand → Bool
 formHolds x = cond (x .isZero) true (topBitHolds (x .limbs) && spareBitsHold (x .precision) (x .limbs))
 
--- of two operands and a target (add, subtract)
-unfoldable pub pairRefusal : ℕ → Operand → Operand → ℕ → List ℕ → Refusal
-pairRefusal mode x y p target =
+-- of two operands and a target of n limbs (add, subtract)
+unfoldable pub pairRefusal : ℕ → Operand → Operand → ℕ → ℕ → Refusal
+pairRefusal mode x y p n =
     firstRefusal
     (test (modeHolds mode) 1 0
     ∷ test (precisionHolds (x .precision)) 2 1
     ∷ test (precisionHolds (y .precision)) 2 2
     ∷ test (precisionHolds p) 2 3
-    ∷ test (lengthHolds (x .precision) (x .limbs)) 3 1
-    ∷ test (lengthHolds (y .precision) (y .limbs)) 3 2
-    ∷ test (lengthHolds p target) 3 3
+    ∷ test (lengthHolds (x .precision) (length (x .limbs))) 3 1
+    ∷ test (lengthHolds (y .precision) (length (y .limbs))) 3 2
+    ∷ test (lengthHolds p n) 3 3
     ∷ test (exponentHolds x) 4 1
     ∷ test (exponentHolds y) 4 2
     ∷ test (formHolds x) 5 1
     ∷ test (formHolds y) 5 2
     ∷ [])
 
--- of one operand and a target (re-round)
-unfoldable pub singleRefusal : ℕ → Operand → ℕ → List ℕ → Refusal
-singleRefusal mode x p target =
+-- of one operand and a target of n limbs (re-round)
+unfoldable pub singleRefusal : ℕ → Operand → ℕ → ℕ → Refusal
+singleRefusal mode x p n =
     firstRefusal
     (test (modeHolds mode) 1 0
     ∷ test (precisionHolds (x .precision)) 2 1
     ∷ test (precisionHolds p) 2 3
-    ∷ test (lengthHolds (x .precision) (x .limbs)) 3 1
-    ∷ test (lengthHolds p target) 3 3
+    ∷ test (lengthHolds (x .precision) (length (x .limbs))) 3 1
+    ∷ test (lengthHolds p n) 3 3
     ∷ test (exponentHolds x) 4 1
     ∷ test (formHolds x) 5 1
     ∷ [])
@@ -89,8 +89,8 @@ comparedRefusal x y =
     firstRefusal
     (test (precisionHolds (x .precision)) 2 1
     ∷ test (precisionHolds (y .precision)) 2 2
-    ∷ test (lengthHolds (x .precision) (x .limbs)) 3 1
-    ∷ test (lengthHolds (y .precision) (y .limbs)) 3 2
+    ∷ test (lengthHolds (x .precision) (length (x .limbs))) 3 1
+    ∷ test (lengthHolds (y .precision) (length (y .limbs))) 3 2
     ∷ test (exponentHolds x) 4 1
     ∷ test (exponentHolds y) 4 2
     ∷ test (formHolds x) 5 1
@@ -102,7 +102,7 @@ unfoldable pub aloneRefusal : Operand → Refusal
 aloneRefusal x =
     firstRefusal
     (test (precisionHolds (x .precision)) 2 1
-    ∷ test (lengthHolds (x .precision) (x .limbs)) 3 1
+    ∷ test (lengthHolds (x .precision) (length (x .limbs))) 3 1
     ∷ test (exponentHolds x) 4 1
     ∷ test (formHolds x) 5 1
     ∷ [])
