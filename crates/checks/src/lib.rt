@@ -5,7 +5,7 @@ ghost use mathlib.Core.List.{[]};
 ghost use Prim.Native.Nat.{ℕ, _+_, _-_, _*_, _^_, _≤_, _<_};
 ghost use lib.ListN.{length, getD};
 ghost use Rattle.number.specs.Limits.{counted, limbsFor};
-ghost use Rattle.checks.specs.Number.{operandOf, turnedNumber, exponentOf, fetched};
+ghost use Rattle.checks.specs.Number.{isZeroKind, operandOf, turnedNumber, exponentOf, fetched};
 ghost use Rattle.checks.specs.Check.{precisionHolds, lengthHolds, exponentHolds, topBitHolds, spareBitsHold, formHolds, pairRefusal, singleRefusal, comparedRefusal, aloneRefusal};
 ghost use Rattle.checks.specs.Judged.{judgedOf, judgedTarget, absentHolds, firstPlace, refusalOf};
 
@@ -51,6 +51,17 @@ pub fn turn_sign(x: Number) -> Number
         kind: kind,
         precision: x.precision,
         exponent: x.exponent,
+    }
+}
+
+// Whether the number is a zero.
+pub fn is_zero(x: Number) -> bool
+    ensures { λ r. ⌜ r ≡ isZeroKind (x .kind) ⌝ }
+{
+    let kind = x.kind;
+    match kind {
+        Kind::Zero => true,
+        Kind::Regular => false,
     }
 }
 
