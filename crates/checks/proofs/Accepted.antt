@@ -13,7 +13,7 @@ use Rattle.number.specs.Limits.{leastPrecision, mostPrecision, bias, leastExpon
 use Rattle.number.specs.Operand.{Operand, spareBits, Regular, WellFormed}
 use Rattle.number.proofs.Limits.{two-digits, limbs-hold}
 use Rattle.checks.specs.Check.{accepted, modeHolds, precisionHolds, lengthHolds, exponentHolds, topBitHolds, spareBitsHold, formHolds, firstRefusal, pairRefusal, singleRefusal, comparedRefusal, aloneRefusal}
-use Rattle.checks.proofs.Tables.{all-accepted, accepted-all, both}
+use Rattle.checks.proofs.Tables.{all-accepted, accepted-all, unrefused-accepted, both}
 use Rattle.checks.proofs.Tests.{spare-lt}
 use Rattle.checks.proofs.Form.{top-bit-lead, lead-top-bit, spare-low}
 
@@ -193,3 +193,21 @@ module _ (x : Operand) where
   alone-accepted g =
       let a = well-formed-passes x g in
       all-accepted _ (a .precision, (a .limbs, (a .exponent, (a .form, tt))))
+
+-- ---- a caller looks at the refusal's number: where it is 0, nothing is refused
+
+pub pair-unrefused : (mode : ℕ) (x y : Operand) (p n : ℕ) → pairRefusal mode x y p n .rule ≡ 0 → pairRefusal mode x y p n ≡ accepted
+unfolding pairRefusal
+pair-unrefused mode x y p n e = unrefused-accepted _ refl e
+
+pub single-unrefused : (mode : ℕ) (x : Operand) (p n : ℕ) → singleRefusal mode x p n .rule ≡ 0 → singleRefusal mode x p n ≡ accepted
+unfolding singleRefusal
+single-unrefused mode x p n e = unrefused-accepted _ refl e
+
+pub compared-unrefused : (x y : Operand) → comparedRefusal x y .rule ≡ 0 → comparedRefusal x y ≡ accepted
+unfolding comparedRefusal
+compared-unrefused x y e = unrefused-accepted _ refl e
+
+pub alone-unrefused : (x : Operand) → aloneRefusal x .rule ≡ 0 → aloneRefusal x ≡ accepted
+unfolding aloneRefusal
+alone-unrefused x e = unrefused-accepted _ refl e

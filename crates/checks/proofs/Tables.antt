@@ -32,11 +32,19 @@ pub both : (a b : Bool) → a && b ≡ true → (a ≡ true) × (b ≡ true)
 both true b h = (refl, h)
 both false b h = absurd (false≢true h)
 
-pub accepted-all : (ts : List Test) → allNamed ts ≡ true → firstRefusal ts ≡ accepted → AllHold ts
-unfolding firstRefusal accepted
-accepted-all [] n e = tt
-accepted-all (t ∷ ts) n e = go (t .holds) refl (λ r. accepted-all ts (both (not (eqb (t .rule) 0)) (allNamed ts) n .1) r)
+-- a refusal of the number 0 is none
+pub unrefused-all : (ts : List Test) → allNamed ts ≡ true → firstRefusal ts .rule ≡ 0 → AllHold ts
+unfolding firstRefusal
+unrefused-all [] n e = tt
+unrefused-all (t ∷ ts) n e = go (t .holds) refl (λ r. unrefused-all ts (both (not (eqb (t .rule) 0)) (allNamed ts) n .1) r)
   where
-    go : (b : Bool) → t .holds ≡ b → (firstRefusal ts ≡ accepted → AllHold ts) → AllHold (t ∷ ts)
+    go : (b : Bool) → t .holds ≡ b → (firstRefusal ts .rule ≡ 0 → AllHold ts) → AllHold (t ∷ ts)
     go true h k = (h, k (rw h at e))
-    go false h k = absurd (true≢false (sym (eq-eqb (t .rule) 0 (ap (λ (r : Refusal). r .rule) (rw h at e))) ∙ not-true (eqb (t .rule) 0) (both (not (eqb (t .rule) 0)) (allNamed ts) n .0)))
+    go false h k = absurd (true≢false (sym (eq-eqb (t .rule) 0 (rw h at e)) ∙ not-true (eqb (t .rule) 0) (both (not (eqb (t .rule) 0)) (allNamed ts) n .0)))
+
+pub unrefused-accepted : (ts : List Test) → allNamed ts ≡ true → firstRefusal ts .rule ≡ 0 → firstRefusal ts ≡ accepted
+unrefused-accepted ts n e = all-accepted ts (unrefused-all ts n e)
+
+pub accepted-all : (ts : List Test) → allNamed ts ≡ true → firstRefusal ts ≡ accepted → AllHold ts
+unfolding accepted
+accepted-all ts n e = unrefused-all ts n (ap (λ (r : Refusal). r .rule) e)
