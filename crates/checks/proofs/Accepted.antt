@@ -12,7 +12,7 @@ use Rattle.limb.specs.Value.{valueOf, Below}
 use Rattle.number.specs.Limits.{leastPrecision, mostPrecision, bias, leastExponent, mostExponent, limbsFor}
 use Rattle.number.specs.Operand.{Operand, spareBits, Regular, WellFormed}
 use Rattle.number.proofs.Limits.{two-digits, limbs-hold}
-use Rattle.checks.specs.Check.{accepted, modeHolds, precisionHolds, lengthHolds, exponentHolds, topBitHolds, spareBitsHold, formHolds, firstRefusal, pairRefusal, singleRefusal, comparedRefusal, aloneRefusal}
+use Rattle.checks.specs.Check.{accepted, modeHolds, precisionHolds, lengthHolds, exponentHolds, topBitHolds, spareBitsHold, formHolds, firstRefusal, pairRefusal, singleRefusal, comparedRefusal, convertedRefusal, aloneRefusal}
 use Rattle.checks.proofs.Tables.{all-accepted, accepted-all, unrefused-accepted, both}
 use Rattle.checks.proofs.Tests.{spare-lt}
 use Rattle.checks.proofs.Form.{top-bit-lead, lead-top-bit, spare-low}
@@ -108,7 +108,7 @@ module _ (x : Operand) where
   pub well-formed-passes : WellFormed x → Passes x
   well-formed-passes g = record { precision = range-precision (x .precision) (g .least) (g .most); limbs = count-length (x .precision) (length (x .limbs)) (g .count); exponent = exponent-passes g; form = form-passes g }
 
--- ---- the four tables: accepted exactly where each condition of document 01 holds
+-- ---- the tables: accepted exactly where each condition of document 01 holds
 
 -- a target of p digits in n limbs
 pub record TargetFits (p n : ℕ) : Type 0 where
@@ -181,6 +181,19 @@ module _ (x y : Operand) where
       let b = well-formed-passes y h in
       all-accepted _ (a .precision, (b .precision, (a .limbs, (b .limbs, (a .exponent, (b .exponent, (a .form, (b .form, tt))))))))
 
+module _ (mode : ℕ) (x : Operand) where
+  pub accepted-converted : Below (2 ^ 64) (x .limbs) → convertedRefusal mode x ≡ accepted → (mode ≤ 3) × WellFormed x
+  unfolding convertedRefusal
+  accepted-converted w e =
+      let h = accepted-all _ refl e in
+      (mode-range mode (h .0), passes-well-formed x w (record { precision = h .1 .0; limbs = h .1 .1 .0; exponent = h .1 .1 .1 .0; form = h .1 .1 .1 .1 .0 }))
+
+  pub converted-accepted : mode ≤ 3 → WellFormed x → convertedRefusal mode x ≡ accepted
+  unfolding convertedRefusal
+  converted-accepted m g =
+      let a = well-formed-passes x g in
+      all-accepted _ (range-mode mode m, (a .precision, (a .limbs, (a .exponent, (a .form, tt)))))
+
 module _ (x : Operand) where
   pub accepted-alone : Below (2 ^ 64) (x .limbs) → aloneRefusal x ≡ accepted → WellFormed x
   unfolding aloneRefusal
@@ -207,6 +220,10 @@ single-unrefused mode x p n e = unrefused-accepted _ refl e
 pub compared-unrefused : (x y : Operand) → comparedRefusal x y .rule ≡ 0 → comparedRefusal x y ≡ accepted
 unfolding comparedRefusal
 compared-unrefused x y e = unrefused-accepted _ refl e
+
+pub converted-unrefused : (mode : ℕ) (x : Operand) → convertedRefusal mode x .rule ≡ 0 → convertedRefusal mode x ≡ accepted
+unfolding convertedRefusal
+converted-unrefused mode x e = unrefused-accepted _ refl e
 
 pub alone-unrefused : (x : Operand) → aloneRefusal x .rule ≡ 0 → aloneRefusal x ≡ accepted
 unfolding aloneRefusal

@@ -7,7 +7,7 @@ use lib.Dec.{eqb, leb}
 use Rattle.number.specs.Operand.{Operand}
 use Rattle.checks.specs.declared.Judged.{Judged}
 use Rattle.checks.specs.declared.Refusal.{Refusal}
-use Rattle.checks.specs.Check.{Test, test, accepted, firstRefusal, modeHolds, pairRefusal, singleRefusal, comparedRefusal, aloneRefusal}
+use Rattle.checks.specs.Check.{Test, test, accepted, firstRefusal, modeHolds, pairRefusal, singleRefusal, comparedRefusal, convertedRefusal, aloneRefusal}
 use Rattle.checks.specs.Judged.{judgedOf, judgedTarget, absentHolds, firstPlace, refusalOf}
 
 -- a rule that holds in all places is passed; else its first place is named
@@ -55,6 +55,10 @@ single-refusal mode x p n h i j k = h ∙ rw (i, j, k)
 pub compared-refusal : {a b t : Judged} {r : Refusal} (x y : Operand) → r ≡ refusalOf true a b t → a ≡ judgedOf x → b ≡ judgedOf y → t ≡ absentHolds → r ≡ comparedRefusal x y
 unfolding comparedRefusal refusalOf judgedOf absentHolds firstRefusal
 compared-refusal x y h i j k = h ∙ rw (i, j, k)
+
+pub converted-refusal : {a b t : Judged} {r : Refusal} (mode : ℕ) (x : Operand) → r ≡ refusalOf (leb mode 3) a b t → a ≡ judgedOf x → b ≡ absentHolds → t ≡ absentHolds → r ≡ convertedRefusal mode x
+unfolding convertedRefusal refusalOf judgedOf absentHolds modeHolds firstRefusal
+converted-refusal mode x h i j k = h ∙ rw (i, j, k)
 
 pub alone-refusal : {a b t : Judged} {r : Refusal} (x : Operand) → r ≡ refusalOf true a b t → a ≡ judgedOf x → b ≡ absentHolds → t ≡ absentHolds → r ≡ aloneRefusal x
 unfolding aloneRefusal refusalOf judgedOf absentHolds firstRefusal

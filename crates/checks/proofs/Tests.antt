@@ -12,25 +12,24 @@ use borrow.Author.Tests.{eq-eqb}
 use Rattle.number.specs.Limits.{counted, bias, leastExponent, mostExponent, limbsFor}
 use Rattle.number.specs.Operand.{spareBits}
 use Rattle.checks.specs.declared.Number.{Number}
-use Rattle.checks.specs.declared.Kind.the-variants.{Regular, Zero}
 use Rattle.checks.specs.Number.{operandOf, isZeroKind}
 use Rattle.checks.specs.Check.{exponentHolds, formHolds, topBitHolds, spareBitsHold}
 
 module _ (x : Number) where
-  pub zero-exponent : (e : ℕ) → x .kind ≡ Zero → e ≡ counted (x .exponent) → eqb e 1099511627776 ≡ exponentHolds (operandOf x [])
-  unfolding exponentHolds operandOf isZeroKind bias
+  pub zero-exponent : (e : ℕ) → isZeroKind (x .kind) ≡ true → e ≡ counted (x .exponent) → eqb e 1099511627776 ≡ exponentHolds (operandOf x [])
+  unfolding exponentHolds operandOf bias
   zero-exponent e k h = rw (k, h)
 
-  pub regular-exponent : (e : ℕ) → x .kind ≡ Regular → e ≡ counted (x .exponent) → leb 1098437885953 e && leb e 1100585369599 ≡ exponentHolds (operandOf x [])
-  unfolding exponentHolds operandOf isZeroKind bias leastExponent mostExponent
+  pub regular-exponent : (e : ℕ) → isZeroKind (x .kind) ≡ false → e ≡ counted (x .exponent) → leb 1098437885953 e && leb e 1100585369599 ≡ exponentHolds (operandOf x [])
+  unfolding exponentHolds operandOf bias leastExponent mostExponent
   regular-exponent e k h = rw (k, h)
 
-  pub zero-form : (l : List ℕ) → x .kind ≡ Zero → true ≡ formHolds (operandOf x l)
-  unfolding formHolds operandOf isZeroKind
+  pub zero-form : (l : List ℕ) → isZeroKind (x .kind) ≡ true → true ≡ formHolds (operandOf x l)
+  unfolding formHolds operandOf
   zero-form l k = rw k
 
-  pub regular-form : (l : List ℕ) (a b : Bool) → x .kind ≡ Regular → a ≡ topBitHolds l → b ≡ spareBitsHold (x .precision) l → a && b ≡ formHolds (operandOf x l)
-  unfolding formHolds operandOf isZeroKind
+  pub regular-form : (l : List ℕ) (a b : Bool) → isZeroKind (x .kind) ≡ false → a ≡ topBitHolds l → b ≡ spareBitsHold (x .precision) l → a && b ≡ formHolds (operandOf x l)
+  unfolding formHolds operandOf
   regular-form l a b k h g = rw (k, h, g)
 
 -- with no limb there is no top bit, and no spare bit

@@ -97,7 +97,18 @@ comparedRefusal x y =
     ∷ test (formHolds y) 5 2
     ∷ [])
 
--- of one operand under a mode (number to double), and of one operand alone (the enclosing pair)
+-- of one operand under a mode (number to double)
+unfoldable pub convertedRefusal : ℕ → Operand → Refusal
+convertedRefusal mode x =
+    firstRefusal
+    (test (modeHolds mode) 1 0
+    ∷ test (precisionHolds (x .precision)) 2 1
+    ∷ test (lengthHolds (x .precision) (length (x .limbs))) 3 1
+    ∷ test (exponentHolds x) 4 1
+    ∷ test (formHolds x) 5 1
+    ∷ [])
+
+-- of one operand alone (the enclosing pair)
 unfoldable pub aloneRefusal : Operand → Refusal
 aloneRefusal x =
     firstRefusal

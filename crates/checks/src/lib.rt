@@ -6,7 +6,7 @@ ghost use Prim.Native.Nat.{ℕ, _+_, _-_, _*_, _^_, _≤_, _<_};
 ghost use lib.ListN.{length, getD};
 ghost use Rattle.number.specs.Limits.{counted, limbsFor};
 ghost use Rattle.checks.specs.Number.{isZeroKind, operandOf, turnedNumber, exponentOf, fetched};
-ghost use Rattle.checks.specs.Check.{precisionHolds, lengthHolds, exponentHolds, topBitHolds, spareBitsHold, formHolds, pairRefusal, singleRefusal, comparedRefusal, aloneRefusal};
+ghost use Rattle.checks.specs.Check.{precisionHolds, lengthHolds, exponentHolds, topBitHolds, spareBitsHold, formHolds, pairRefusal, singleRefusal, comparedRefusal, convertedRefusal, aloneRefusal};
 ghost use Rattle.checks.specs.Judged.{judgedOf, judgedTarget, absentHolds, firstPlace, refusalOf};
 
 pub enum Kind {
@@ -128,16 +128,15 @@ pub fn length_holds(p: u64, n: usize) -> bool
 pub fn exponent_holds(x: Number) -> bool
     ensures { λ r. ⌜ r ≡ exponentHolds (operandOf x []) ⌝ }
 {
-    let kind = x.kind;
     let e = counted_exponent(x.exponent);
-    match kind {
-        Kind::Zero => e == BIAS,
-        Kind::Regular => (LEAST_EXPONENT <= e) & (e <= MOST_EXPONENT),
+    if is_zero(x) {
+        return e == BIAS;
     }
+    (LEAST_EXPONENT <= e) & (e <= MOST_EXPONENT)
 }
 
 // 5: the top bit of the top limb is 1.
-pub fn top_bit_holds(l: &[u64]) -> bool
+fn top_bit_holds(l: &[u64]) -> bool
     ensures { λ r. ⌜ r ≡ topBitHolds (now (l .entry)) ⌝ }
 {
     let n = l.len();
@@ -148,7 +147,7 @@ pub fn top_bit_holds(l: &[u64]) -> bool
 }
 
 // 5: the bits of the lowest limb below the last of p digits are 0.
-pub fn spare_bits_hold(p: u64, l: &[u64]) -> bool
+fn spare_bits_hold(p: u64, l: &[u64]) -> bool
     ensures { λ r. ⌜ r ≡ spareBitsHold p (now (l .entry)) ⌝ }
 {
     if l.len() == 0 {
@@ -162,19 +161,18 @@ pub fn spare_bits_hold(p: u64, l: &[u64]) -> bool
 pub fn form_holds(x: Number, l: &[u64]) -> bool
     ensures { λ r. ⌜ r ≡ formHolds (operandOf x (now (l .entry))) ⌝ }
 {
-    let kind = x.kind;
-    match kind {
-        Kind::Zero => true,
-        Kind::Regular => top_bit_holds(l) & spare_bits_hold(x.precision, l),
+    if is_zero(x) {
+        return true;
     }
+    top_bit_holds(l) & spare_bits_hold(x.precision, l)
 }
 
 // What tests 2 to 5 say of an operand or a target: true where the test holds.
-pub struct Judged {
-    pub precision: bool,
-    pub limbs: bool,
-    pub exponent: bool,
-    pub form: bool,
+struct Judged {
+    precision: bool,
+    limbs: bool,
+    exponent: bool,
+    form: bool,
 }
 
 fn judge(x: Number, l: &[u64]) -> Judged
@@ -285,7 +283,7 @@ pub fn check_pair(
     )
 }
 
-// The same of one operand.
+// The same of one operand and a target.
 pub fn check_single(mode: u8, x: Number, xl: &[u64], p: u64, n: usize) -> Refusal
     ensures { λ r. ⌜ r ≡ singleRefusal mode (operandOf x (now (xl .entry))) p n ⌝ }
 {
@@ -297,11 +295,18 @@ pub fn check_single(mode: u8, x: Number, xl: &[u64], p: u64, n: usize) -> Refusa
     )
 }
 
-// Refusals 2 to 5 of two operands.
+// Refusals 2 to 5 of two operands, without a mode or a target.
 pub fn check_compared(x: Number, xl: &[u64], y: Number, yl: &[u64]) -> Refusal
     ensures { λ r. ⌜ r ≡ comparedRefusal (operandOf x (now (xl .entry))) (operandOf y (now (yl .entry))) ⌝ }
 {
     first_refusal(true, judge(x, xl), judge(y, yl), absent())
+}
+
+// Refusals 1 to 5 of one operand under a mode, without a target.
+pub fn check_converted(mode: u8, x: Number, xl: &[u64]) -> Refusal
+    ensures { λ r. ⌜ r ≡ convertedRefusal mode (operandOf x (now (xl .entry))) ⌝ }
+{
+    first_refusal(mode <= MOST_MODE, judge(x, xl), absent(), absent())
 }
 
 // Refusals 2 to 5 of one operand.
