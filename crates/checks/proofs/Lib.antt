@@ -1,0 +1,6 @@
+pub mod Signed
+pub mod Places
+pub mod Tests
+pub mod Tables
+pub mod Form
+pub mod Accepted

@@ -1,0 +1,25 @@
+-- `checks::check_pair`: the tests of the definition, in its order. Assumes nothing.
+use borrow.Author.Needs.{needs}
+use Rattle.checks.proofs.Places.{pair-refusal}
+use Rattle.checks.proofs.check_pair.Statement.{statement}
+use Rattle.checks.proofs.check_pair.Tie as tie
+
+judge-requires : tie.Need-judge-requires
+judge-requires c κs = search needs
+
+judge-requires-2 : tie.Need-judge-requires-2
+judge-requires-2 c κs = search needs
+
+judge-target-requires : tie.Need-judge-target-requires
+judge-target-requires c κs = search needs
+
+first-refusal-requires : tie.Need-first-refusal-requires
+first-refusal-requires c κs = search needs
+
+returns : tie.Need-returns
+returns c = pair-refusal _ _ _ _ _ (c .first-refusal .ensures) (c .before .before .before .judge .ensures) (c .before .before .judge2 .ensures) (c .before .judge-target .ensures)
+
+pub check-pair-spec : {M : Type 1} → statement M
+check-pair-spec =
+    tie.close
+    (tie.spec judge-requires judge-requires-2 judge-target-requires first-refusal-requires returns)

@@ -1,0 +1,107 @@
+-- Each return of the code, as a case of the order as it is found. Assumes nothing.
+use mathlib.Core.Path.{_≡_, refl, sym, ap, _∙_}
+use mathlib.Core.Bool.{Bool, true, false, _&&_, Bool·beq}
+use mathlib.Core.List.{List, []}
+use Prim.Native.Nat.{ℕ, _^_, _≤_, _<_, compare, Ordering, Ordering·lt, Ordering·eq, Ordering·gt}
+use native.Mathlib.Nat.{le-antisymm}
+use borrow.Author.Tests.{eq-eqb, ne-eqb}
+use Rattle.limb.specs.Value.{Below}
+use Rattle.number.specs.Limits.{counted}
+use Rattle.number.specs.Operand.{Operand}
+use Rattle.checks.specs.declared.Number.{Number}
+use Rattle.checks.specs.Number.{isZeroKind, operandOf}
+use Rattle.checks.specs.declared.Refusal.{Refusal}
+use Rattle.checks.specs.Check.{comparedRefusal}
+use Rattle.checks.proofs.Accepted.{accepted-compared, compared-unrefused}
+use Rattle.rounding.proofs.Order.{compare-at}
+use Rattle.order.specs.declared.Order.{Order}
+use Rattle.order.specs.declared.Order.the-variants.{Less, Equal, Greater}
+use Rattle.order.specs.Order.{orderOf, caseOf, comparedOf}
+use Rattle.order.specs.Steps.{orElse, alignedOrder, regularOrder, sizeOrder, apartOrder, signedOrder}
+use Rattle.order.proofs.Sizes.{order-found}
+
+same-negative : (x y : Operand) → Bool·beq (x .negative) (y .negative) ≡ true → x .negative ≡ true → signedOrder x y ≡ sizeOrder y x
+unfolding signedOrder
+same-negative x y h n = rw (h, n)
+
+same-positive : (x y : Operand) → Bool·beq (x .negative) (y .negative) ≡ true → x .negative ≡ false → signedOrder x y ≡ sizeOrder x y
+unfolding signedOrder
+same-positive x y h n = rw (h, n)
+
+module _ (x y : Number) (xl yl : List ℕ) where
+  -- ---- two regular numbers
+  module _ (a b : ℕ) (p : a ≡ counted (x .exponent)) (q : b ≡ counted (y .exponent)) where
+    by-exponent : (o : Ordering) → compare a b ≡ o → regularOrder (operandOf x xl) (operandOf y yl) ≡ orElse o (alignedOrder xl yl)
+    unfolding regularOrder operandOf
+    by-exponent o e = ap (λ (o : Ordering). orElse o (alignedOrder xl yl)) (ap (λ (n : ℕ). compare n (counted (y .exponent))) (sym p) ∙ ap (compare a) (sym q) ∙ e)
+
+    pub lower-exponent : a < b → Less ≡ caseOf (regularOrder (operandOf x xl) (operandOf y yl))
+    unfolding caseOf orElse
+    lower-exponent h = sym (ap caseOf (by-exponent Ordering·lt (compare-at Ordering·lt a b h)))
+
+    pub higher-exponent : b < a → Greater ≡ caseOf (regularOrder (operandOf x xl) (operandOf y yl))
+    unfolding caseOf orElse
+    higher-exponent h = sym (ap caseOf (by-exponent Ordering·gt (compare-at Ordering·gt a b h)))
+
+    pub same-exponent : {r : Order} → b ≤ a → a ≤ b → r ≡ caseOf (alignedOrder xl yl) → r ≡ caseOf (regularOrder (operandOf x xl) (operandOf y yl))
+    unfolding orElse
+    same-exponent h g e = e ∙ sym (ap caseOf (by-exponent Ordering·eq (compare-at Ordering·eq a b (le-antisymm g h))))
+
+  -- ---- zeros
+  module _ (a b : Bool) (p : a ≡ isZeroKind (x .kind)) (q : b ≡ isZeroKind (y .kind)) where
+    pub both-zero : a ≡ true → b ≡ true → Equal ≡ caseOf (sizeOrder (operandOf x xl) (operandOf y yl))
+    unfolding caseOf sizeOrder operandOf
+    both-zero h g = simp (sym p ∙ h, sym q ∙ g)
+
+    pub first-zero : a ≡ true → b ≡ false → Less ≡ caseOf (sizeOrder (operandOf x xl) (operandOf y yl))
+    unfolding caseOf sizeOrder operandOf
+    first-zero h g = simp (sym p ∙ h, sym q ∙ g)
+
+    pub second-zero : a ≡ false → b ≡ true → Greater ≡ caseOf (sizeOrder (operandOf x xl) (operandOf y yl))
+    unfolding caseOf sizeOrder operandOf
+    second-zero h g = simp (sym p ∙ h, sym q ∙ g)
+
+    pub none-zero : {r : Order} → a ≡ false → b ≡ false → r ≡ caseOf (regularOrder (operandOf x xl) (operandOf y yl)) → r ≡ caseOf (sizeOrder (operandOf x xl) (operandOf y yl))
+    unfolding sizeOrder operandOf
+    none-zero h g e = e ∙ simp (sym p ∙ h, sym q ∙ g)
+
+    -- different signs
+    pub apart-zeros : a && b ≡ true → Equal ≡ caseOf (apartOrder (operandOf x xl) (operandOf y yl))
+    unfolding caseOf apartOrder operandOf
+    apart-zeros h = let e : isZeroKind (x .kind) && isZeroKind (y .kind) ≡ true = rw (p, q) at h in simp e
+
+    pub apart-below : a && b ≡ false → x .negative ≡ true → Less ≡ caseOf (apartOrder (operandOf x xl) (operandOf y yl))
+    unfolding caseOf apartOrder operandOf
+    apart-below h n = let e : isZeroKind (x .kind) && isZeroKind (y .kind) ≡ false = rw (p, q) at h in simp (e, n)
+
+    pub apart-above : a && b ≡ false → x .negative ≡ false → Greater ≡ caseOf (apartOrder (operandOf x xl) (operandOf y yl))
+    unfolding caseOf apartOrder operandOf
+    apart-above h n = let e : isZeroKind (x .kind) && isZeroKind (y .kind) ≡ false = rw (p, q) at h in simp (e, n)
+
+  -- ---- signs
+  pub signs-apart : {r : Order} → Bool·beq (x .negative) (y .negative) ≡ false → r ≡ caseOf (apartOrder (operandOf x []) (operandOf y [])) → r ≡ caseOf (signedOrder (operandOf x xl) (operandOf y yl))
+  unfolding signedOrder apartOrder operandOf
+  signs-apart h e = e ∙ simp h
+
+  pub both-negative : {r : Order} → Bool·beq (x .negative) (y .negative) ≡ true → x .negative ≡ true → r ≡ caseOf (sizeOrder (operandOf y yl) (operandOf x xl)) → r ≡ caseOf (signedOrder (operandOf x xl) (operandOf y yl))
+  unfolding operandOf
+  both-negative h n e = e ∙ sym (ap caseOf (same-negative (operandOf x xl) (operandOf y yl) h n))
+
+  pub both-positive : {r : Order} → Bool·beq (x .negative) (y .negative) ≡ true → x .negative ≡ false → r ≡ caseOf (sizeOrder (operandOf x xl) (operandOf y yl)) → r ≡ caseOf (signedOrder (operandOf x xl) (operandOf y yl))
+  unfolding operandOf
+  both-positive h n e = e ∙ sym (ap caseOf (same-positive (operandOf x xl) (operandOf y yl) h n))
+
+-- ---- the answer of a comparison
+
+module _ (x y : Number) (xl yl : List ℕ) (r : Refusal) (p : r ≡ comparedRefusal (operandOf x xl) (operandOf y yl)) where
+  pub compared-refused : (r .rule ≡ 0 → ⊥) → record { order = Equal; refusal = r } ≡ comparedOf x xl y yl
+  unfolding comparedOf
+  compared-refused h = rw (← p, ne-eqb (r .rule) 0 h)
+
+  -- nothing is refused, so both are of good form, and the order that is found is the order
+  pub compared-found : (o : Order) → r .rule ≡ 0 → Below (2 ^ 64) xl → Below (2 ^ 64) yl → o ≡ caseOf (signedOrder (operandOf x xl) (operandOf y yl)) → record { order = o; refusal = r } ≡ comparedOf x xl y yl
+  unfolding comparedOf operandOf
+  compared-found o h wx wy e =
+      let g = accepted-compared (operandOf x xl) (operandOf y yl) wx wy (compared-unrefused (operandOf x xl) (operandOf y yl) (rw p at h)) in
+      let f : o ≡ caseOf (orderOf (operandOf x xl) (operandOf y yl)) = e ∙ ap caseOf (sym (order-found (operandOf x xl) (operandOf y yl) (g .0) (g .1))) in
+      rw (← p, eq-eqb (r .rule) 0 h, f)

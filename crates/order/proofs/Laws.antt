@@ -1,0 +1,103 @@
+-- The order of two numbers is an order: equal to itself, reversed with its operands, and so under a turn of both signs. Assumes nothing.
+use mathlib.Core.Path.{_≡_, refl, sym, ap, _∙_}
+use mathlib.Core.Bool.{Bool, true, false, not, cond, Bool·beq, true≢false}
+use Prim.Native.Nat.{ℕ, _+_, _-_, _*_, _^_, _<_, min, compare, Ordering, Ordering·lt, Ordering·eq, Ordering·gt}
+use native.Mathlib.Nat.{add-comm}
+use native.Mathlib.Omega.{arith}
+use lib.IntN.{negℤ}
+use Rattle.number.specs.Operand.{Operand, mantissa, lastWeight, turned}
+use Rattle.rounding.specs.Sum.{scale, amount, share}
+use Rattle.rounding.proofs.Order.{Cmp, cmp, compare-at}
+use Rattle.order.specs.Order.{orderOf, caseOf, numberOf}
+
+unfoldable pub reversed : Ordering → Ordering
+reversed Ordering·lt = Ordering·gt
+reversed Ordering·eq = Ordering·eq
+reversed Ordering·gt = Ordering·lt
+
+compare-reversed : (a b : ℕ) → compare b a ≡ reversed (compare a b)
+unfolding reversed
+compare-reversed a b = go (compare a b) (cmp a b)
+  where
+    go : (o : Ordering) → Cmp o a b → compare b a ≡ reversed o
+    go Ordering·lt h = compare-at Ordering·gt b a h
+    go Ordering·eq h = compare-at Ordering·eq b a (sym h)
+    go Ordering·gt h = compare-at Ordering·lt b a h
+
+-- document 01's number of a reversed order is the number with the other sign
+pub reversed-number : (o : Ordering) → numberOf (caseOf (reversed o)) ≡ negℤ (numberOf (caseOf o))
+unfolding reversed caseOf numberOf
+reversed-number Ordering·lt = refl
+reversed-number Ordering·eq = refl
+reversed-number Ordering·gt = refl
+
+pub equal-itself : (x : Operand) → orderOf x x ≡ Ordering·eq
+unfolding orderOf
+equal-itself x = compare-at Ordering·eq _ _ (add-comm (share false (scale x x) x) (share true (scale x x) x))
+
+no-share : (b : Bool) (s : ℕ) (x : Operand) → x .isZero ≡ true → share b s x ≡ 0
+unfolding share amount
+no-share b s x z = go (Bool·beq (x .negative) b)
+  where
+    go : (t : Bool) → cond t (cond (x .isZero) 0 (mantissa x * 2 ^ (lastWeight x - s))) 0 ≡ 0
+    go true = rw z
+    go false = refl
+
+-- "the two zeros are equal"
+pub zeros-equal : (x y : Operand) → x .isZero ≡ true → y .isZero ≡ true → orderOf x y ≡ Ordering·eq
+unfolding orderOf
+zeros-equal x y z w =
+    let s = scale x y in
+    compare-at Ordering·eq _ _ (simp (no-share false s x z, no-share true s x z, no-share false s y w, no-share true s y w))
+
+-- the unit of two numbers that are not both zero
+scale-swapped : (x y : Operand) → (x .isZero ≡ true → y .isZero ≡ true → ⊥) → scale y x ≡ scale x y
+unfolding scale
+scale-swapped x y n = go (x .isZero) (y .isZero) (lastWeight x) (lastWeight y) n
+  where
+    go : (a b : Bool) (m n : ℕ) → (a ≡ true → b ≡ true → ⊥) → cond b m (cond a n (min n m)) ≡ cond a n (cond b m (min m n))
+    go true true m n h = absurd (h refl refl)
+    go true false m n h = refl
+    go false true m n h = refl
+    go false false m n h = omega arith
+
+same-unit : (x y : Operand) → scale y x ≡ scale x y → orderOf y x ≡ reversed (orderOf x y)
+unfolding orderOf
+same-unit x y e =
+    rw e
+    (ap (λ (n : ℕ). compare n (share true (scale x y) y + share false (scale x y) x)) (add-comm (share false (scale x y) y) (share true (scale x y) x))
+    ∙ ap (compare (share true (scale x y) x + share false (scale x y) y)) (add-comm (share true (scale x y) y) (share false (scale x y) x))
+    ∙ compare-reversed (share false (scale x y) x + share true (scale x y) y) (share true (scale x y) x + share false (scale x y) y))
+
+pub order-reversed : (x y : Operand) → orderOf y x ≡ reversed (orderOf x y)
+unfolding reversed
+order-reversed x y = go (x .isZero) (y .isZero) refl refl
+  where
+    go : (a b : Bool) → x .isZero ≡ a → y .isZero ≡ b → orderOf y x ≡ reversed (orderOf x y)
+    go true true z w = zeros-equal y x w z ∙ sym (ap reversed (zeros-equal x y z w))
+    go true false z w = same-unit x y (scale-swapped x y (λ e f. true≢false (sym f ∙ w)))
+    go false b z w = same-unit x y (scale-swapped x y (λ e f. true≢false (sym e ∙ z)))
+
+turned-share : (b : Bool) (s : ℕ) (x : Operand) → share b s (turned x) ≡ share (not b) s x
+unfolding share amount turned mantissa lastWeight
+turned-share b s x = ap (λ (t : Bool). cond t (amount s x) 0) (other (x .negative) b)
+  where
+    other : (a b : Bool) → Bool·beq (not a) b ≡ Bool·beq a (not b)
+    other true true = refl
+    other true false = refl
+    other false true = refl
+    other false false = refl
+
+turned-scale : (x y : Operand) → scale (turned x) (turned y) ≡ scale x y
+unfolding scale turned lastWeight
+turned-scale x y = refl
+
+turned-reversed : (x y : Operand) → orderOf (turned x) (turned y) ≡ reversed (orderOf x y)
+unfolding orderOf
+turned-reversed x y =
+    let s = scale x y in
+    simp (turned-scale, turned-share) (compare-reversed (share false s x + share true s y) (share true s x + share false s y))
+
+-- turning both signs reverses the order
+pub order-turned : (x y : Operand) → orderOf (turned x) (turned y) ≡ orderOf y x
+order-turned x y = turned-reversed x y ∙ sym (order-reversed x y)

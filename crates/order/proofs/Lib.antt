@@ -1,0 +1,4 @@
+pub mod Head
+pub mod Sizes
+pub mod Cases
+pub mod Laws

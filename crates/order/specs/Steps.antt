@@ -1,0 +1,38 @@
+-- The order as it is found: signs, zeros, exponents, then limbs from the top. Definitions only.
+use Prim.Native.Nat.{ℕ, _-_, _*_, _^_, compare, Ordering, Ordering·lt, Ordering·eq, Ordering·gt}
+use mathlib.Core.Bool.{Bool, true, false, cond, _&&_, Bool·beq}
+use mathlib.Core.List.{List}
+use lib.Dec.{ltb}
+use lib.ListN.{length, getD}
+use Rattle.limb.specs.Value.{valueOf}
+use Rattle.number.specs.Operand.{Operand}
+
+-- limb i from the top; below the lowest stands 0
+unfoldable pub fromTop : List ℕ → ℕ → ℕ
+fromTop l i = cond (ltb i (length l)) (getD l (length l - 1 - i) 0) 0
+
+-- two lists of limbs, padded at the bottom to a common length
+unfoldable pub alignedOrder : List ℕ → List ℕ → Ordering
+alignedOrder x y = compare (valueOf x * (2 ^ 64) ^ length y) (valueOf y * (2 ^ 64) ^ length x)
+
+-- the first order where it decides, else the second
+unfoldable pub orElse : Ordering → Ordering → Ordering
+orElse Ordering·lt o = Ordering·lt
+orElse Ordering·eq o = o
+orElse Ordering·gt o = Ordering·gt
+
+-- of two regular numbers without their signs
+unfoldable pub regularOrder : Operand → Operand → Ordering
+regularOrder x y = orElse (compare (x .exponent) (y .exponent)) (alignedOrder (x .limbs) (y .limbs))
+
+-- of two numbers without their signs
+unfoldable pub sizeOrder : Operand → Operand → Ordering
+sizeOrder x y = cond (x .isZero) (cond (y .isZero) Ordering·eq Ordering·lt) (cond (y .isZero) Ordering·gt (regularOrder x y))
+
+-- of two numbers of different signs
+unfoldable pub apartOrder : Operand → Operand → Ordering
+apartOrder x y = cond (x .isZero && y .isZero) Ordering·eq (cond (x .negative) Ordering·lt Ordering·gt)
+
+-- of any two
+unfoldable pub signedOrder : Operand → Operand → Ordering
+signedOrder x y = cond (Bool·beq (x .negative) (y .negative)) (cond (x .negative) (sizeOrder y x) (sizeOrder x y)) (apartOrder x y)

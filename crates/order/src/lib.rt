@@ -1,0 +1,140 @@
+// The order of two numbers.
+use checks::Number;
+use checks::Refusal;
+ghost use mathlib.Core.Path.{_≡_};
+ghost use mathlib.Core.List.{[]};
+ghost use Prim.Native.Nat.{_+_, _≤_};
+ghost use Rattle.checks.specs.Number.{operandOf};
+ghost use Rattle.order.specs.Order.{caseOf, comparedOf};
+ghost use Rattle.order.specs.Steps.{fromTop, alignedOrder, regularOrder, sizeOrder, apartOrder, signedOrder};
+
+pub enum Order {
+    Less,
+    Equal,
+    Greater,
+}
+
+// The order, and the refusal; a refused comparison is Equal beside its number and place.
+pub struct Compared {
+    pub order: Order,
+    pub refusal: Refusal,
+}
+
+fn longer(a: usize, b: usize) -> usize
+    ensures { λ r. ⌜ (a ≤ r) × (b ≤ r) × (r ≤ a + b) ⌝ }
+{
+    if a < b { b } else { a }
+}
+
+// Limb i of a number of that precision, counted from the top; below the lowest limb stands 0.
+fn from_top(limbs: &[u64], precision: u64, i: usize) -> u64
+    ensures { λ r. ⌜ r ≡ fromTop (now (limbs .entry)) i ⌝ }
+{
+    if i < limbs.len() {
+        let index = limbs.len() - 1 - i;
+        return checks::fetch(limbs, precision, index);
+    }
+    0
+}
+
+// Two mantissas, aligned at the top, limb by limb down to the first difference:
+//
+//     x   [top] [   ] [   ] [low]
+//     y   [top] [low]   0     0
+fn order_limbs(xl: &[u64], xp: u64, yl: &[u64], yp: u64) -> Order
+    ensures { λ r. ⌜ r ≡ caseOf (alignedOrder (now (xl .entry)) (now (yl .entry))) ⌝ }
+{
+    let n = longer(xl.len(), yl.len());
+    let mut i = 0;
+    while i < n {
+        let a = from_top(xl, xp, i);
+        let b = from_top(yl, yp, i);
+        if a < b {
+            return Order::Less;
+        }
+        if b < a {
+            return Order::Greater;
+        }
+        i += 1;
+    }
+    Order::Equal
+}
+
+// Two regular numbers without their signs: the exponents decide, else the limbs.
+fn order_regular(x: Number, xl: &[u64], y: Number, yl: &[u64]) -> Order
+    ensures { λ r. ⌜ r ≡ caseOf (regularOrder (operandOf x (now (xl .entry))) (operandOf y (now (yl .entry)))) ⌝ }
+{
+    let a = checks::counted_exponent(x.exponent);
+    let b = checks::counted_exponent(y.exponent);
+    if a < b {
+        return Order::Less;
+    }
+    if b < a {
+        return Order::Greater;
+    }
+    order_limbs(xl, x.precision, yl, y.precision)
+}
+
+// Two numbers without their signs; a zero is below every regular number.
+fn order_sizes(x: Number, xl: &[u64], y: Number, yl: &[u64]) -> Order
+    ensures { λ r. ⌜ r ≡ caseOf (sizeOrder (operandOf x (now (xl .entry))) (operandOf y (now (yl .entry)))) ⌝ }
+{
+    let xz = checks::is_zero(x);
+    let yz = checks::is_zero(y);
+    if xz {
+        if yz {
+            return Order::Equal;
+        }
+        return Order::Less;
+    }
+    if yz {
+        return Order::Greater;
+    }
+    order_regular(x, xl, y, yl)
+}
+
+// Two numbers of different signs: the negative one is below, save that the two zeros are equal.
+fn order_apart(x: Number, y: Number) -> Order
+    ensures { λ r. ⌜ r ≡ caseOf (apartOrder (operandOf x []) (operandOf y [])) ⌝ }
+{
+    let xz = checks::is_zero(x);
+    let yz = checks::is_zero(y);
+    if xz & yz {
+        return Order::Equal;
+    }
+    if x.negative {
+        return Order::Less;
+    }
+    Order::Greater
+}
+
+// Two numbers of one sign: of two negative ones the larger in size is below.
+fn order_accepted(x: Number, xl: &[u64], y: Number, yl: &[u64]) -> Order
+    ensures { λ r. ⌜ r ≡ caseOf (signedOrder (operandOf x (now (xl .entry))) (operandOf y (now (yl .entry)))) ⌝ }
+{
+    if x.negative != y.negative {
+        return order_apart(x, y);
+    }
+    if x.negative {
+        return order_sizes(y, yl, x, xl);
+    }
+    order_sizes(x, xl, y, yl)
+}
+
+// The order of two numbers, once refusals 2 to 5 are checked.
+pub fn compare(x: Number, xl: &[u64], y: Number, yl: &[u64]) -> Compared
+    ensures { λ r. ⌜ r ≡ comparedOf x (now (xl .entry)) y (now (yl .entry)) ⌝ }
+{
+    let refusal = checks::check_compared(x, xl, y, yl);
+    if refusal.rule != 0 {
+        return Compared {
+            order: Order::Equal,
+            refusal: refusal,
+        };
+    }
+    let order = order_accepted(x, xl, y, yl);
+    Compared {
+        order: order,
+        refusal: refusal,
+    }
+}
