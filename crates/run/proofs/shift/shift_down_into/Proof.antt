@@ -52,7 +52,7 @@ loop-again c = (
       let g = c .before .before .before .before .before .args in
       let x : ℕ = valueIn (2 ^ 64) (g .s .now) in
       let place : 64 * (g .k / 64 + l .i) + g .k % 64 ≡ g .k + 64 * l .i = omega arith in
-      limb-written (l .target) (x / 2 ^ g .k) (l .i) _ (c .before .loop-test .taken)
+      limb-written (l .target) (x / 2 ^ g .k) (l .i) _ (omega arith)
       ((rw place at (c .window-at .ensures)) ∙ ap (λ (m : ℕ). m % 2 ^ 64) (sym (shr-shr x (g .k) (64 * l .i)))) (l .inv .2),
 )
 
