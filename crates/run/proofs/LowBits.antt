@@ -1,8 +1,7 @@
 -- The bits below bit k of a run of limbs. Assumes nothing.
 use mathlib.Core.Path.{_≡_, sym, ap, _∙_, subst}
-use mathlib.Core.Bool.{false}
-use Prim.Native.Nat.{ℕ, zero, suc, _+_, _-_, _*_, _/_, _%_, _^_, _≤_, _<_}
-use native.Mathlib.Nat.{zero-mod, zero-mul, mul-pos, pos-of-ne-zero, add-mul-mod-self-left, mul-assoc, mul-comm, ne-of-gt, add-zero}
+use Prim.Native.Nat.{ℕ, suc, _+_, _-_, _*_, _/_, _%_, _^_, _≤_, _<_}
+use native.Mathlib.Nat.{zero-mod, zero-mul, mul-pos, pos-of-ne-zero, add-mul-mod-self-left, mul-assoc, ne-of-gt, add-zero}
 use native.Mathlib.Decide.{decLe}
 use native.Mathlib.Omega.{arith}
 use native.Mathlib.Numerals.{add-one}

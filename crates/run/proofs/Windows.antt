@@ -1,7 +1,7 @@
 -- 64 bits across two limbs: the arithmetic of `fetch`. Assumes nothing.
 use mathlib.Core.Path.{_≡_, refl, sym, ap, _∙_, subst}
 use Prim.Native.Nat.{ℕ, suc, _+_, _-_, _*_, _/_, _%_, _^_, _≤_, _<_}
-use native.Mathlib.Nat.{add-mul-div-left, add-mul-mod-self-left, add-mod-mod, mod-eq-of-lt, mod-lt, mul-mod-left, mul-one, add-comm, add-zero, sub-add-cancel, le-of-lt, mul-assoc, div-one, pow-zero, mul-comm}
+use native.Mathlib.Nat.{add-mul-div-left, add-mul-mod-self-left, add-mod-mod, mod-eq-of-lt, mod-lt, mul-mod-left, mul-one, add-comm, add-zero, mul-assoc, div-one}
 use native.Mathlib.Omega.{arith}
 use native.Mathlib.Numerals.{add-one}
 use mathlib.Core.List.{List}

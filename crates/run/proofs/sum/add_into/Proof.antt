@@ -1,6 +1,6 @@
 -- `run::add_into` is right since after i turns the target, with the carry on top of its lowest i limbs, is worth what it was, the
 -- operand's lowest i limbs and the carry in. Assumes nothing.
-use mathlib.Core.Path.{_≡_, sym, ap}
+use mathlib.Core.Path.{_≡_, ap}
 use mathlib.Core.List.{List}
 use Prim.Native.Nat.{ℕ, _+_, _-_, _*_, _^_, _≤_, _<_}
 use native.Mathlib.Nat.{pow-succ'}
