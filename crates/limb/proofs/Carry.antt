@@ -62,12 +62,12 @@ module _ (B : ℕ) where
   two-differences a b x y c false false hb hy hc ex ey = omega arith
 
   -- a limb and a carry are fixed by the number that they stand for: two sums that meet the promise agree
-  pub sum-unique : (s t : ℕ) (p q : Bool) → s < B → t < B → s + B * bit p ≡ t + B * bit q → (s ≡ t) × (p ≡ q)
+  pub sum-unique : (s t n : ℕ) (p q : Bool) → s < B → t < B → s + B * bit p ≡ n → t + B * bit q ≡ n → (s ≡ t) × (p ≡ q)
   unfolding bit
-  sum-unique s t true true hs ht e = (omega arith, refl)
-  sum-unique s t true false hs ht e = absurd (omega arith)
-  sum-unique s t false true hs ht e = absurd (omega arith)
-  sum-unique s t false false hs ht e = (omega arith, refl)
+  sum-unique s t n true true hs ht e f = (omega arith, refl)
+  sum-unique s t n true false hs ht e f = absurd (omega arith)
+  sum-unique s t n false true hs ht e f = absurd (omega arith)
+  sum-unique s t n false false hs ht e f = (omega arith, refl)
 
   -- and so do two differences
   pub difference-unique : (s t n a : ℕ) (p q : Bool) → s < B → t < B → s + n ≡ a + B * bit p → t + n ≡ a + B * bit q → (s ≡ t) × (p ≡ q)

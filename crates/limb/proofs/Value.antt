@@ -1,10 +1,8 @@
 -- Laws of `valueIn`, over any base B, since omega does not get far with 2 ^ 64 written out. Assumes nothing.
-use mathlib.Core.Path.{_≡_, refl, sym, ap, _∙_, subst}
-use Prim.Native.Nat.{ℕ, zero, suc, _+_, _-_, _*_, _/_, _%_, _^_, _≤_, _<_, zero-le, suc-le-suc}
-use native.Mathlib.Decide.{decLe}
-use native.Mathlib.Nat.{pow-le-pow-right, one-le-pow, add-mul-div-left, add-mul-mod-self-left, mod-eq-of-lt, div-eq-of-lt, pow-succ', pow-zero, le-of-suc-le-suc, not-suc-le-zero, mul-le-mul-left, mul-zero, zero-lt-suc, suc-ne-zero, mul-add, mul-assoc, add-assoc, add-zero, one-mul, zero-add, add-mul, mul-comm}
+use mathlib.Core.Path.{_≡_, refl, sym, ap, _∙_}
+use Prim.Native.Nat.{ℕ, zero, suc, _+_, _*_, _/_, _%_, _^_, _<_}
+use native.Mathlib.Nat.{one-le-pow, add-mul-div-left, add-mul-mod-self-left, mod-eq-of-lt, div-eq-of-lt, pow-succ', pow-zero, le-of-suc-le-suc, not-suc-le-zero, mul-le-mul-left, zero-add}
 use native.Mathlib.Omega.{arith}
-use native.Mathlib.Numerals.{add-one}
 use mathlib.Core.List.{List, [], _∷_, _++_}
 use lib.ListN.{length, getD, take, drop, set}
 use lib.Pow.{pow-add}

@@ -14,7 +14,7 @@ use Rattle.limb.proofs.Carry.{sum-unique, difference-unique}
 use Rattle.limb.proofs.Value.{value-nil, value-split, value-lt, value-unique}
 use Rattle.run.specs.Sum.{Added, Subtracted, AddedAt, SubtractedAt}
 
--- no limb of the operand met the target yet: k is worth k at its bottom
+-- before any limb of the operand is added, the carry k stands at the bottom
 pub none-added : (B : ℕ) (t o : List ℕ) (k : ℕ) → valueIn B t + B ^ 0 * k ≡ valueIn B t + valueIn B (take 0 o) + k
 none-added B t o k = rw (pow-zero, value-nil) (omega arith)
 
@@ -32,8 +32,8 @@ module _ (xs ys : List ℕ) (p q : Bool) (hx : Below (2 ^ 64) xs) (hy : Below (2
 
   pub added-unique : Added before operand carry xs p → Added before operand carry ys q → (xs ≡ ys) × (p ≡ q)
   added-unique a b =
-      let e = sum-unique ((2 ^ 64) ^ length before) (valueIn (2 ^ 64) xs) (valueIn (2 ^ 64) ys) p q
-      (below-top xs hx (a .same-length)) (below-top ys hy (b .same-length)) (a .value ∙ sym (b .value)) in
+      let e = sum-unique ((2 ^ 64) ^ length before) (valueIn (2 ^ 64) xs) (valueIn (2 ^ 64) ys) _ p q
+      (below-top xs hx (a .same-length)) (below-top ys hy (b .same-length)) (a .value) (b .value) in
       (value-unique (2 ^ 64) xs ys hx hy (a .same-length ∙ sym (b .same-length)) (e .0), e .1)
 
   pub subtracted-unique : Subtracted before operand carry xs p → Subtracted before operand carry ys q → (xs ≡ ys) × (p ≡ q)

@@ -1,8 +1,7 @@
--- The bits below bit k of a run of limbs. Assumes nothing.
+-- Laws of the low k bits of a run: a limb below the cut that is not 0 decides, and else the limb at the cut. Assumes nothing.
 use mathlib.Core.Path.{_≡_, sym, ap, _∙_, subst}
-use mathlib.Core.Bool.{false}
-use Prim.Native.Nat.{ℕ, zero, suc, _+_, _-_, _*_, _/_, _%_, _^_, _≤_, _<_}
-use native.Mathlib.Nat.{zero-mod, zero-mul, mul-pos, pos-of-ne-zero, add-mul-mod-self-left, mul-assoc, mul-comm, ne-of-gt, add-zero}
+use Prim.Native.Nat.{ℕ, suc, _+_, _-_, _*_, _/_, _%_, _^_, _≤_, _<_}
+use native.Mathlib.Nat.{zero-mod, zero-mul, mul-pos, pos-of-ne-zero, add-mul-mod-self-left, mul-assoc, ne-of-gt, add-zero}
 use native.Mathlib.Decide.{decLe}
 use native.Mathlib.Omega.{arith}
 use native.Mathlib.Numerals.{add-one}
@@ -39,7 +38,7 @@ module _ (l : List ℕ) (k : ℕ) (h : Below (2 ^ 64) l) where
       let ek : j + 64 * (i + 1) ≡ k = omega arith in
       let z : valueIn (2 ^ 64) (take (i + 1) l) ≡ 0 =
       sym (low (i + 1)) ∙ sym (mod-mod-pow x j (64 * (i + 1))) ∙ ap (λ (m : ℕ). m % 2 ^ (64 * (i + 1))) (ap (λ (m : ℕ). x % 2 ^ m) ek ∙ e) ∙ zero-mod _ in
-      let z' : valueIn (2 ^ 64) (take i l) + (2 ^ 64) ^ i * getD l i 0 ≡ 0 = sym (value-take (2 ^ 64) i l) ∙ (rw (add-one i) at z) in
+      let sum : valueIn (2 ^ 64) (take i l) + (2 ^ 64) ^ i * getD l i 0 ≡ 0 = sym (value-take (2 ^ 64) i l) ∙ (rw (add-one i) at z) in
       omega (arith, mul-pos (subst (λ (m : ℕ). 0 < m) (sym (base-pow i)) (pow-pos (64 * i))) (pos-of-ne-zero ne))
 
   -- every limb below the cut is 0, and the list ends there
@@ -54,11 +53,11 @@ module _ (l : List ℕ) (k : ℕ) (h : Below (2 ^ 64) l) where
       let t : ℕ = k % 64 in
       let r : ℕ = valueIn (2 ^ 64) (drop (suc q) l) in
       let ek : t + 64 * q ≡ k = omega arith in
-      let e64 : 64 ≡ t + (64 - t) = omega arith in
-      let split64 : 2 ^ 64 ≡ 2 ^ t * 2 ^ (64 - t) = ap (λ (m : ℕ). 2 ^ m) e64 ∙ pow-add 2 t (64 - t) in
+      let width : 64 ≡ t + (64 - t) = omega arith in
+      let base : 2 ^ 64 ≡ 2 ^ t * 2 ^ (64 - t) = ap (λ (m : ℕ). 2 ^ m) width ∙ pow-add 2 t (64 - t) in
       let high : x / 2 ^ (64 * q) ≡ getD l q 0 + 2 ^ t * (2 ^ (64 - t) * r) =
       ap (λ (m : ℕ). x / m) (sym (base-pow q)) ∙ value-shr (2 ^ 64) q l h ∙ value-drop (2 ^ 64) q l
-      ∙ ap (λ (m : ℕ). getD l q 0 + m) (ap (λ (m : ℕ). m * r) split64 ∙ mul-assoc (2 ^ t) (2 ^ (64 - t)) r) in
+      ∙ ap (λ (m : ℕ). getD l q 0 + m) (ap (λ (m : ℕ). m * r) base ∙ mul-assoc (2 ^ t) (2 ^ (64 - t)) r) in
       let all : x % 2 ^ k ≡ getD l q 0 % 2 ^ t * 2 ^ (64 * q) =
       ap (λ (m : ℕ). x % 2 ^ m) (sym ek) ∙ mod-pow-add x t (64 * q) ∙ ap (λ (m : ℕ). x / 2 ^ (64 * q) % 2 ^ t * 2 ^ (64 * q) + m) (low q ∙ e) ∙ add-zero _
       ∙ ap (λ (m : ℕ). m % 2 ^ t * 2 ^ (64 * q)) high ∙ ap (λ (m : ℕ). m * 2 ^ (64 * q)) (add-mul-mod-self-left (getD l q 0) (2 ^ t) (2 ^ (64 - t) * r)) in

@@ -1,18 +1,18 @@
--- 64 bits across two limbs: the arithmetic of `fetch`. Assumes nothing.
+-- Laws of a run read at any bit: 64 bits lie in one limb or across two, and a run moved by bits is made of such windows. Assumes nothing.
 use mathlib.Core.Path.{_≡_, refl, sym, ap, _∙_, subst}
 use Prim.Native.Nat.{ℕ, suc, _+_, _-_, _*_, _/_, _%_, _^_, _≤_, _<_}
-use native.Mathlib.Nat.{add-mul-div-left, add-mul-mod-self-left, add-mod-mod, mod-eq-of-lt, mod-lt, mul-mod-left, mul-one, add-comm, add-zero, sub-add-cancel, le-of-lt, mul-assoc, div-one, pow-zero, mul-comm}
+use native.Mathlib.Nat.{add-mul-div-left, add-mul-mod-self-left, add-mod-mod, mod-eq-of-lt, mod-lt, mul-mod-left, mul-one, add-comm, add-zero, mul-assoc, div-one}
 use native.Mathlib.Omega.{arith}
 use native.Mathlib.Numerals.{add-one}
 use mathlib.Core.List.{List}
 use lib.ListN.{length, take, drop, getD, set}
 use lib.Arith.{digits-lt}
 use lib.Pow.{pow-pos, pow-add, mod-pow-add, shl-shr, shr-shr, shr-lt}
+use lib.Seq.{take-set-le, getD-set-same}
 use lib.Bits.{bitOr, or-shifted-r}
 use Rattle.limb.specs.Value.{valueIn, Below}
-use lib.Seq.{take-set-le, getD-set-same}
-use Rattle.run.specs.LowLimbs.{LowLimbs}
 use Rattle.limb.proofs.Value.{value-unique, value-take, value-drop, value-shr, base-pow}
+use Rattle.run.specs.LowLimbs.{LowLimbs}
 
 -- what a left shift by u keeps at j + u bits: the low j bits of h, moved up
 kept : (h j u : ℕ) → h * 2 ^ u % 2 ^ (j + u) ≡ h % 2 ^ j * 2 ^ u
@@ -21,9 +21,9 @@ kept h j u =
     ∙ ap (λ (m : ℕ). h % 2 ^ j * 2 ^ u + m) (mul-mod-left h (2 ^ u)) ∙ add-zero _
 
 -- the window at bit t of l + 2 ^ (t + u) * (h + 2 ^ (t + u) * r)
-pub window : (t u l h r : ℕ) → l < 2 ^ (t + u)
+window-bits : (t u l h r : ℕ) → l < 2 ^ (t + u)
     → (l + 2 ^ (t + u) * (h + 2 ^ (t + u) * r)) / 2 ^ t % 2 ^ (t + u) ≡ bitOr (l / 2 ^ t) (h * 2 ^ u % 2 ^ (t + u))
-window t u l h r hl =
+window-bits t u l h r hl =
     let p : ℕ = 2 ^ t in
     let q : ℕ = 2 ^ u in
     let b : ℕ = 2 ^ (t + u) in
@@ -33,11 +33,11 @@ window t u l h r hl =
     let hx : x < q = shr-lt u t (subst (λ (n : ℕ). l < 2 ^ n) (add-comm t u) hl) in
     let hy : y < p = mod-lt h (pow-pos t) in
     let small : y * q + x < b = subst (λ (n : ℕ). y * q + x < n) (sym eb) (digits-lt hy hx) in
-    let e1 : l + b * (h + b * r) ≡ l + p * (h * q + b * (q * r)) = omega (arith, ap (λ (m : ℕ). m * h) eb, ap (λ (m : ℕ). m * (b * r)) eb) in
-    let e2 : (l + b * (h + b * r)) / p ≡ x + (h * q + b * (q * r)) = ap (λ (m : ℕ). m / p) e1 ∙ add-mul-div-left l (h * q + b * (q * r)) (pow-pos t) in
-    let e3 : (x + (h * q + b * (q * r))) % b ≡ (x + h * q) % b = ap (λ (m : ℕ). m % b) (omega arith) ∙ add-mul-mod-self-left (x + h * q) b (q * r) in
-    let e4 : (x + h * q) % b ≡ y * q + x = sym (add-mod-mod x (h * q) b) ∙ ap (λ (m : ℕ). (x + m) % b) (kept h t u) ∙ ap (λ (m : ℕ). m % b) (add-comm x (y * q)) ∙ mod-eq-of-lt small in
-    ap (λ (m : ℕ). m % b) e2 ∙ e3 ∙ e4 ∙ sym (ap (λ (m : ℕ). bitOr x m) (kept h t u) ∙ or-shifted-r y u x hx)
+    let spread : l + b * (h + b * r) ≡ l + p * (h * q + b * (q * r)) = omega (arith, ap (λ (m : ℕ). m * h) eb, ap (λ (m : ℕ). m * (b * r)) eb) in
+    let moved : (l + b * (h + b * r)) / p ≡ x + (h * q + b * (q * r)) = ap (λ (m : ℕ). m / p) spread ∙ add-mul-div-left l (h * q + b * (q * r)) (pow-pos t) in
+    let dropped : (x + (h * q + b * (q * r))) % b ≡ (x + h * q) % b = ap (λ (m : ℕ). m % b) (omega arith) ∙ add-mul-mod-self-left (x + h * q) b (q * r) in
+    let pieces : (x + h * q) % b ≡ y * q + x = sym (add-mod-mod x (h * q) b) ∙ ap (λ (m : ℕ). (x + m) % b) (kept h t u) ∙ ap (λ (m : ℕ). m % b) (add-comm x (y * q)) ∙ mod-eq-of-lt small in
+    ap (λ (m : ℕ). m % b) moved ∙ dropped ∙ pieces ∙ sym (ap (λ (m : ℕ). bitOr x m) (kept h t u) ∙ or-shifted-r y u x hx)
 
 -- the 64 bits from bit t of limb q on
 module _ (l : List ℕ) (q t : ℕ) (ht : t < 64) (h : Below (2 ^ 64) l) where
@@ -60,7 +60,7 @@ module _ (l : List ℕ) (q t : ℕ) (ht : t < 64) (h : Below (2 ^ 64) l) where
   across =
       let e : t + (64 - t) ≡ 64 = omega arith in
       sym (ap (λ (m : ℕ). m % 2 ^ 64) (from-limb ∙ ap (λ (m : ℕ). m / 2 ^ t) two-limbs)
-      ∙ rw e at (window t (64 - t) (getD l q 0) (getD l (q + 1) 0) (valueIn (2 ^ 64) (drop (suc (q + 1)) l)) (rw e (h q))))
+      ∙ rw e at (window-bits t (64 - t) (getD l q 0) (getD l (q + 1) 0) (valueIn (2 ^ 64) (drop (suc (q + 1)) l)) (rw e (h q))))
 
 -- moved up by m and n bits at once
 moved-twice : (x m n : ℕ) → x * 2 ^ (m + n) ≡ x * 2 ^ m * 2 ^ n
@@ -131,6 +131,6 @@ limb-written t y i w h ew inv =
     rw (next, add-one i, value-take (2 ^ 64) i (set t i w), take-set-le i t i w (omega arith), getD-set-same t i w 0 h, mod-pow-add y 64 (64 * i), base-pow i)
     (omega (arith, low, ap (λ (m : ℕ). 2 ^ (64 * i) * m) ew))
 
--- the limbs of a number below 2^64 each are fixed by it: two answers that meet `LowLimbs` agree
+-- two answers that meet `LowLimbs` agree, each with its limbs below 2^64
 pub low-limbs-unique : (room n : ℕ) (xs ys : List ℕ) → Below (2 ^ 64) xs → Below (2 ^ 64) ys → LowLimbs room n xs → LowLimbs room n ys → xs ≡ ys
 low-limbs-unique room n xs ys hx hy a b = value-unique (2 ^ 64) xs ys hx hy (a .size ∙ sym (b .size)) (a .value ∙ sym (b .value))

@@ -1,5 +1,6 @@
 -- What adding a run of limbs into another, or taking it off, leaves. Definitions only.
--- Document 01, "Limbs": a sum drops what passes the top of the target, and the carry out is 1 exactly when something was dropped.
+-- Document 01, "Limbs": a limb sum drops what passes 2^64, and the carry out is 1 exactly when something was dropped. The addition works
+-- on a run of limbs that may begin in the middle of an operand.
 use mathlib.Core.Path.{_≡_}
 use mathlib.Core.Bool.{Bool}
 use mathlib.Core.List.{List}
@@ -18,11 +19,12 @@ pub record Subtracted (before operand : List ℕ) (borrow : Bool) (after : List 
   pub same-length : length after ≡ length before
   pub value : valueOf after + valueOf (take (length before) operand) + bit borrow ≡ valueOf before + (2 ^ 64) ^ length before * bit out
 
--- the same into the part of the target from limb start on; the limbs below it stay
+-- a sum into the part of the target from limb start on; the limbs below it stay
 pub record AddedAt (start : ℕ) (before operand : List ℕ) (carry : Bool) (after : List ℕ) (out : Bool) : Type 0 where
   pub below : take start after ≡ take start before
   pub part : Added (drop start before) operand carry (drop start after) out
 
+-- a difference, the same way
 pub record SubtractedAt (start : ℕ) (before operand : List ℕ) (borrow : Bool) (after : List ℕ) (out : Bool) : Type 0 where
   pub below : take start after ≡ take start before
   pub part : Subtracted (drop start before) operand borrow (drop start after) out

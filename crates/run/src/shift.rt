@@ -2,33 +2,26 @@
 ghost use mathlib.Core.Path.{_≡_};
 ghost use Prim.Native.Nat.{ℕ, _+_, _*_, _/_, _%_, _^_, _<_};
 ghost use lib.Dec.{eqb};
-ghost use lib.ListN.{length, getD};
+ghost use lib.ListN.{length};
 ghost use Rattle.limb.specs.Value.{valueOf};
 ghost use Rattle.run.specs.LowLimbs.{LowLimbs};
 use crate::part::limb_at;
 
-// The limb after limb i, 0 past the end. (i + 1 need not fit.)
-fn limb_after(s: &[u64], i: usize) -> u64
-    ensures { λ r. ⌜ r ≡ getD (now (s .entry)) (i + 1) 0 ⌝ }
-{
-    if i < s.len() { limb_at(s, i + 1) } else { 0 }
-}
-
 // The 64 bits from bit `bits` of limb `limbs` on.
 //
-//     limb_after(s, limbs)    limb_at(s, limbs)
-//     [        high       ]   [      low      ]
-//              [ the 64 bits  ]  bits below
+//     limb limbs + 1      limb limbs
+//     [     high    ]  [     low     ]
+//             [  64 bits  ][  bits   ]
 //
 fn window_at(s: &[u64], limbs: usize, bits: usize) -> u64
-    requires { ⌜ bits < 64 ⌝ }
+    requires { ⌜ (limbs + 1 < 2 ^ 64) × (bits < 64) ⌝ }
     ensures { λ r. ⌜ r ≡ valueOf (now (s .entry)) / 2 ^ (64 * limbs + bits) % 2 ^ 64 ⌝ }
 {
     let low = limb_at(s, limbs);
     if bits == 0 {
         low
     } else {
-        let high = limb_after(s, limbs);
+        let high = limb_at(s, limbs + 1);
         (low >> bits) | (high << (64 - bits))
     }
 }
@@ -83,14 +76,6 @@ pub fn shift_up_into(target: &mut [u64], s: &[u64], k: usize)
     }
 }
 
-// 2^k.
-fn power(k: usize) -> u64
-    requires { ⌜ k < 64 ⌝ }
-    ensures { λ r. ⌜ r ≡ 2 ^ k ⌝ }
-{
-    1 << k
-}
-
 // Whether the low k bits are all 0. Looks from the lowest limb up and stops at the first that is not 0.
 pub fn low_is_zero(s: &[u64], k: usize) -> bool
     ensures { λ r. ⌜ r ≡ eqb (valueOf (now (s .entry)) % 2 ^ k) 0 ⌝ }
@@ -106,6 +91,6 @@ pub fn low_is_zero(s: &[u64], k: usize) -> bool
         }
         i += 1;
     }
-    let top = limb_at(s, limbs);
-    top % power(k % 64) == 0
+    let cut = 1 << (k % 64);
+    limb_at(s, limbs) % cut == 0
 }

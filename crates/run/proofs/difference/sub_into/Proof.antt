@@ -64,7 +64,7 @@ loop-again c = (
   simp length-set (omega arith),
   let l = c .before .before .before .before .loop in
       let o = c .before .before .before .before .before .before .before .args .operand .now in
-      limb-taken (2 ^ 64) (l .target) o (l .i) (bit (l .up)) _ _ _ _ _ (c .before .before .before .loop-test .taken) (c .before .limb-at .ensures)
+      limb-taken (2 ^ 64) (l .target) o (l .i) (bit (l .up)) _ _ _ _ _ (omega arith) (c .before .limb-at .ensures)
       (c .sub-borrow .ensures) (l .inv .2),
 )
 

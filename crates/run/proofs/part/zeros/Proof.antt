@@ -31,7 +31,7 @@ returns : tie.Need-returns Inv-loop μ-loop
 returns c =
     let b = c .before .before .before in
     let s : List ℕ = b .before .args .s .now in
-    (search needs, sym (b .loop .inv .1 ∙ trimmed-at-limb s (b .loop .i) (c .before .before .loop-test .taken) (c .if1 .taken)))
+    (search needs, sym (b .loop .inv .1 ∙ trimmed-at-limb s (b .loop .i) (omega arith) (c .if1 .taken)))
 
 add-i : tie.Need-add-i Inv-loop μ-loop
 add-i c = search needs
@@ -43,7 +43,7 @@ loop-again : tie.Need-loop-again Inv-loop μ-loop
 loop-again c =
     let b = c .before .before .before in
     let s : List ℕ = b .before .args .s .now in
-    (search needs, rw (add-one (b .loop .i)) (b .loop .inv .1 ∙ trimmed-past-zero s (b .loop .i) (c .before .before .loop-test .taken) (c .if1 .left)))
+    (search needs, rw (add-one (b .loop .i)) (b .loop .inv .1 ∙ trimmed-past-zero s (b .loop .i) (omega arith) (c .if1 .left)))
 
 returns-2 : tie.Need-returns-2 Inv-loop μ-loop
 returns-2 c =

@@ -1,11 +1,12 @@
 -- `run::low_is_zero` is right since the low k bits are the limbs below limb k / 64 and the low k % 64 bits of that limb. Assumes nothing.
-use mathlib.Core.Path.{_≡_, sym}
-use mathlib.Core.List.{List}
-use Prim.Native.Nat.{ℕ, _-_, _/_, _^_, _≤_}
+use mathlib.Core.Path.{_≡_, sym, _∙_}
+use Prim.Native.Nat.{ℕ, _-_, _*_, _/_, _%_, _^_, _≤_, _<_}
+use native.Mathlib.Nat.{one-mul}
 use native.Mathlib.Numerals.{add-one}
 use native.Mathlib.Omega.{arith}
 use lib.ListN.{take}
-use lib.Pow.{pow-pos}
+use lib.Dec.{lit<}
+use lib.Pow.{pow-pos, shl-exact}
 use borrow.Author.Tests.{eq-eqb, ne-eqb}
 use Rattle.limb.specs.Value.{valueIn}
 use Rattle.limb.proofs.Value.{value-nil, value-take}
@@ -13,6 +14,10 @@ use Rattle.run.proofs.LowBits.{not-zero, all-zero, rest-decides}
 use borrow.Author.Needs.{needs}
 use Rattle.run.proofs.shift.low_is_zero.Statement.{statement}
 use Rattle.run.proofs.shift.low_is_zero.Tie as tie
+
+-- 1 moved up by less than 64 loses no bit
+cut-is : (k : ℕ) → k < 64 → 1 * 2 ^ k % 2 ^ 64 ≡ 2 ^ k
+cut-is k h = shl-exact 1 k 64 (lit< tt) (omega arith) ∙ one-mul _
 
 abbrev Inv-loop : tie.InvT-loop
 Inv-loop s k limbs i₀ i = (i ≤ limbs) × (valueIn (2 ^ 64) (take i s) ≡ 0)
@@ -39,7 +44,7 @@ returns-2 : tie.Need-returns-2 Inv-loop μ-loop
 returns-2 c =
     let b = c .before .before .before .before in
     let g = b .before .before .args in
-    sym (ne-eqb _ 0 (not-zero (g .s .now) (g .k) (λ i. b .before .shared-slice-known .given i .fits) (b .loop .i) (c .before .before .before .loop-test .taken) (c .if2 .taken)))
+    sym (ne-eqb _ 0 (not-zero (g .s .now) (g .k) (λ i. b .before .shared-slice-known .given i .fits) (b .loop .i) (omega arith) (c .if2 .taken)))
 
 add-i : tie.Need-add-i Inv-loop μ-loop
 add-i c = search needs
@@ -54,21 +59,21 @@ loop-again c = (
       rw (add-one (b .loop .i), value-take (2 ^ 64) (b .loop .i) (b .before .before .args .s .now), b .loop .inv .1, c .if2 .left) (omega arith),
 )
 
+shl-cut : tie.Need-shl-cut Inv-loop μ-loop
+shl-cut c = search needs
+
 limb-at-requires : tie.Need-limb-at-requires Inv-loop μ-loop
 limb-at-requires c κs = search needs
 
-power-requires : tie.Need-power-requires Inv-loop μ-loop
-power-requires c κs = search needs
-
 rem-result : tie.Need-rem-result Inv-loop μ-loop
-rem-result c = rw (c .power .ensures) (pow-pos _)
+rem-result c = rw (cut-is (c .before .before .before .before .args .k % 64) (omega arith)) (pow-pos _)
 
 returns-3 : tie.Need-returns-3 Inv-loop μ-loop
 returns-3 c =
-    let b = c .before .before .before in
+    let b = c .before .before in
     let g = b .before .before .args in
     let e : b .loop .i ≡ g .k / 64 = omega arith in
-    rw (c .before .limb-at .ensures, c .power .ensures)
+    rw (c .limb-at .ensures, cut-is (g .k % 64) (omega arith))
     (rest-decides (g .s .now) (g .k) (λ i. b .before .shared-slice-known .given i .fits) (rw e at (b .loop .inv .1)))
 
 pub low-is-zero-spec : {M : Type 1} → statement M
@@ -85,7 +90,7 @@ low-is-zero-spec =
     add-i
     loop-less
     loop-again
+    shl-cut
     limb-at-requires
-    power-requires
     rem-result
     returns-3)

@@ -1,11 +1,10 @@
 -- `run::shift_down_into` is right since limb i of what is moved down by k bits is the 64 bits from bit k + 64 i on. Assumes nothing.
 use mathlib.Core.Path.{_≡_, sym, ap, _∙_}
 use mathlib.Core.List.{List}
-use Prim.Native.Nat.{ℕ, _+_, _-_, _*_, _/_, _%_, _^_, _≤_, _<_}
+use Prim.Native.Nat.{ℕ, _+_, _-_, _*_, _/_, _%_, _^_, _≤_}
 use native.Mathlib.Nat.{mod-one}
-use native.Mathlib.Numerals.{add-one}
 use native.Mathlib.Omega.{arith}
-use lib.ListN.{length, take, set, length-set}
+use lib.ListN.{length, take, length-set}
 use lib.Pow.{shr-shr}
 use lib.Seq.{take-length}
 use Rattle.limb.specs.Value.{valueIn}
@@ -52,7 +51,7 @@ loop-again c = (
       let g = c .before .before .before .before .before .args in
       let x : ℕ = valueIn (2 ^ 64) (g .s .now) in
       let place : 64 * (g .k / 64 + l .i) + g .k % 64 ≡ g .k + 64 * l .i = omega arith in
-      limb-written (l .target) (x / 2 ^ g .k) (l .i) _ (c .before .loop-test .taken)
+      limb-written (l .target) (x / 2 ^ g .k) (l .i) _ (omega arith)
       ((rw place at (c .window-at .ensures)) ∙ ap (λ (m : ℕ). m % 2 ^ 64) (sym (shr-shr x (g .k) (64 * l .i)))) (l .inv .2),
 )
 

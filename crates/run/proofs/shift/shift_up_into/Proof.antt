@@ -46,7 +46,7 @@ loop-again c = (
   let l = c .before .before .loop in
       let g = c .before .before .before .before .before .args in
       let x : ℕ = valueIn (2 ^ 64) (g .s .now) in
-      limb-written (l .target) (x * 2 ^ g .k) (l .i) _ (c .before .loop-test .taken)
+      limb-written (l .target) (x * 2 ^ g .k) (l .i) _ (omega arith)
       (c .raised-at .ensures) (l .inv .2),
 )
 

@@ -1,6 +1,6 @@
 -- `run::add_into` is right since after i turns the target, with the carry on top of its lowest i limbs, is worth what it was, the
 -- operand's lowest i limbs and the carry in. Assumes nothing.
-use mathlib.Core.Path.{_≡_, sym, ap}
+use mathlib.Core.Path.{_≡_, ap}
 use mathlib.Core.List.{List}
 use Prim.Native.Nat.{ℕ, _+_, _-_, _*_, _^_, _≤_, _<_}
 use native.Mathlib.Nat.{pow-succ'}
@@ -64,7 +64,7 @@ loop-again c = (
   simp length-set (omega arith),
   let l = c .before .before .before .before .loop in
       let o = c .before .before .before .before .before .before .before .args .operand .now in
-      limb-added (2 ^ 64) (l .target) o (l .i) (bit (l .up)) _ _ _ _ _ (c .before .before .before .loop-test .taken) (c .before .limb-at .ensures)
+      limb-added (2 ^ 64) (l .target) o (l .i) (bit (l .up)) _ _ _ _ _ (omega arith) (c .before .limb-at .ensures)
       (c .add-carry .ensures) (l .inv .2),
 )
 
