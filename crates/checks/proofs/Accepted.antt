@@ -9,9 +9,9 @@ use lib.ListN.{length, getD}
 use lib.Dec.{leb, eqb}
 use borrow.Author.Tests.{leb-true, le-leb, eqb-true, eq-eqb}
 use Rattle.limb.specs.Value.{valueOf, Below}
-use Rattle.number.specs.Limits.{leastPrecision, mostPrecision, bias, leastExponent, mostExponent, limbsFor}
-use Rattle.number.specs.Operand.{Operand, spareBits, Regular, WellFormed}
-use Rattle.number.proofs.Limits.{two-digits, limbs-hold}
+use Rattle.numbers.specs.Limits.{leastPrecision, mostPrecision, bias, leastExponent, mostExponent, limbsFor}
+use Rattle.numbers.specs.Operand.{Operand, spareBits, Regular, WellFormed}
+use Rattle.numbers.proofs.Limits.{two-digits, limbs-hold}
 use Rattle.checks.specs.Check.{accepted, modeHolds, precisionHolds, lengthHolds, exponentHolds, topBitHolds, spareBitsHold, formHolds, firstRefusal, pairRefusal, singleRefusal, comparedRefusal, convertedRefusal, aloneRefusal}
 use Rattle.checks.proofs.Tables.{all-accepted, accepted-all, unrefused-accepted, both}
 use Rattle.checks.proofs.Tests.{spare-lt}

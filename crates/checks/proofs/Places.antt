@@ -4,7 +4,7 @@ use mathlib.Core.Bool.{Bool, true, false, cond}
 use mathlib.Core.List.{List, [], _∷_}
 use Prim.Native.Nat.{ℕ}
 use lib.Dec.{eqb, leb}
-use Rattle.number.specs.Operand.{Operand}
+use Rattle.numbers.specs.Operand.{Operand}
 use Rattle.checks.specs.declared.Judged.{Judged}
 use Rattle.checks.specs.declared.Refusal.{Refusal}
 use Rattle.checks.specs.Check.{Test, test, accepted, firstRefusal, modeHolds, pairRefusal, singleRefusal, comparedRefusal, convertedRefusal, aloneRefusal}

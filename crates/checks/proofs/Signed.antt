@@ -11,7 +11,7 @@ use mir.Syntax.{w32, w64}
 use mir.Val.{SFits, toZ, ofZ}
 use mir.Facts.{toZ-ofZ, toZ-pos, sfits-widen}
 use borrow.Author.Tests.{le-ltb, lt-ltb, le-leb, lt-leb}
-use Rattle.number.specs.Limits.{bias, counted, leastExponent, mostExponent}
+use Rattle.numbers.specs.Limits.{bias, counted, leastExponent, mostExponent}
 use Rattle.checks.specs.Number.{exponentOf}
 
 pub counted-lt : (z : ℤ) → SFits w32 z → counted z < 2 ^ 41

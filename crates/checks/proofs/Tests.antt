@@ -9,8 +9,8 @@ use lib.Dec.{leb, eqb}
 use lib.ListN.{length, getD}
 use lib.Pow.{pow-pos, pow-lt}
 use borrow.Author.Tests.{eq-eqb}
-use Rattle.number.specs.Limits.{counted, bias, leastExponent, mostExponent, limbsFor}
-use Rattle.number.specs.Operand.{spareBits}
+use Rattle.numbers.specs.Limits.{counted, bias, leastExponent, mostExponent, limbsFor}
+use Rattle.numbers.specs.Operand.{spareBits}
 use Rattle.checks.specs.declared.Number.{Number}
 use Rattle.checks.specs.Number.{operandOf, isZeroKind}
 use Rattle.checks.specs.Check.{exponentHolds, formHolds, topBitHolds, spareBitsHold}

@@ -5,8 +5,8 @@ use mathlib.Core.Bool.{Bool, true, false, cond, _&&_}
 use mathlib.Core.List.{List, [], _∷_}
 use lib.Dec.{ltb, leb, eqb}
 use lib.ListN.{length, getD}
-use Rattle.number.specs.Limits.{leastPrecision, mostPrecision, bias, leastExponent, mostExponent, limbsFor}
-use Rattle.number.specs.Operand.{Operand, spareBits}
+use Rattle.numbers.specs.Limits.{leastPrecision, mostPrecision, bias, leastExponent, mostExponent, limbsFor}
+use Rattle.numbers.specs.Operand.{Operand, spareBits}
 use Rattle.checks.specs.declared.Refusal.{Refusal}
 
 -- nothing is refused

@@ -3,7 +3,7 @@ use Prim.Native.Nat.{ℕ}
 use mathlib.Core.Bool.{Bool, true, false, cond}
 use mathlib.Core.List.{[], _∷_}
 use lib.ListN.{length}
-use Rattle.number.specs.Operand.{Operand}
+use Rattle.numbers.specs.Operand.{Operand}
 use Rattle.checks.specs.declared.Judged.{Judged}
 use Rattle.checks.specs.declared.Refusal.{Refusal}
 use Rattle.checks.specs.Check.{test, firstRefusal, precisionHolds, lengthHolds, exponentHolds, formHolds}

@@ -5,8 +5,8 @@ use mathlib.Core.List.{List}
 use lib.Dec.{leb, ltb}
 use lib.IntN.{ℤ, pos, subℕ}
 use lib.ListN.{getD}
-use Rattle.number.specs.Limits.{counted, bias}
-use Rattle.number.specs.Operand.{Operand}
+use Rattle.numbers.specs.Limits.{counted, bias}
+use Rattle.numbers.specs.Operand.{Operand}
 use Rattle.checks.specs.declared.Number.{Number}
 use Rattle.checks.specs.declared.Kind.{Kind}
 use Rattle.checks.specs.declared.Kind.the-variants.{Regular, Zero}

@@ -4,7 +4,7 @@ ghost use mathlib.Core.Bool.{Bool, true, not};
 ghost use mathlib.Core.List.{[]};
 ghost use Prim.Native.Nat.{ℕ, _+_, _-_, _*_, _^_, _≤_, _<_};
 ghost use lib.ListN.{length, getD};
-ghost use Rattle.number.specs.Limits.{counted, limbsFor};
+ghost use Rattle.numbers.specs.Limits.{counted, limbsFor};
 ghost use Rattle.checks.specs.Number.{isZeroKind, operandOf, turnedNumber, exponentOf, fetched};
 ghost use Rattle.checks.specs.Check.{precisionHolds, lengthHolds, exponentHolds, topBitHolds, spareBitsHold, formHolds, pairRefusal, singleRefusal, comparedRefusal, convertedRefusal, aloneRefusal};
 ghost use Rattle.checks.specs.Judged.{judgedOf, judgedTarget, absentHolds, firstPlace, refusalOf};

@@ -10,7 +10,7 @@ use lib.Pow.{pow-pos, pow-add}
 use lib.Ieee.{size}
 use Rattle.rounding.specs.Mode.{Way}
 use Rattle.rounding.specs.Answer.{tooLarge, tooSmall, rounded, digits}
-use Rattle.number.specs.Limits.{leastExponent, mostExponent}
+use Rattle.numbers.specs.Limits.{leastExponent, mostExponent}
 use Rattle.rounding.specs.Select.{chosen}
 use Rattle.rounding.proofs.Between.{between}
 use Rattle.rounding.proofs.Scale.{digits-shift}

@@ -6,14 +6,14 @@ use native.Mathlib.Nat.{le-trans, le-of-eq, lt-of-lt-of-le, mul-le-mul-right, mu
 use native.Mathlib.Omega.{arith}
 use lib.Pow.{pow-pos, pow-mono}
 use lib.Ieee.{size}
-use Rattle.number.specs.Operand.{Operand, mantissa, lastWeight, WellFormed}
+use Rattle.numbers.specs.Operand.{Operand, mantissa, lastWeight, WellFormed}
 use Rattle.rounding.specs.Mode.{Mode}
 use Rattle.rounding.specs.Answer.{Answer}
 use Rattle.rounding.specs.Sum.{amount}
 use Rattle.depth.specs.Read.{unread}
-use Rattle.number.specs.Limits.{leastExponent}
+use Rattle.numbers.specs.Limits.{leastExponent}
 use Rattle.rounding.proofs.Selection.{multiple}
-use Rattle.number.proofs.Digits.{mantissa-lt, mantissa-ge, precision-two}
+use Rattle.numbers.proofs.Digits.{mantissa-lt, mantissa-ge, precision-two}
 use Rattle.depth.proofs.Reach.{digitsAt, end}
 use Rattle.depth.proofs.Amounts.{amount-end}
 use Rattle.depth.proofs.Meet.{least-is}

@@ -5,8 +5,8 @@ use mathlib.Core.Bool.{Bool, true, false}
 use mathlib.Core.List.{[], _∷_}
 use lib.Ieee.{size}
 use Rattle.limb.specs.Value.{valueIn}
-use Rattle.number.specs.Limits.{bias, leastExponent, mostExponent, limbsFor}
-use Rattle.number.specs.Operand.{Operand, spareBits, mantissa, lastWeight}
+use Rattle.numbers.specs.Limits.{bias, leastExponent, mostExponent, limbsFor}
+use Rattle.numbers.specs.Operand.{Operand, spareBits, mantissa, lastWeight}
 use Rattle.rounding.specs.Mode.{nearest, zeroward, upward, downward, way}
 use Rattle.rounding.specs.Sum.{scale}
 use Rattle.depth.specs.Columns.{topExponent}

@@ -8,8 +8,8 @@ use lib.Dec.{lit≤, lit<}
 use lib.Ieee.{size}
 use lib.Pow.{pow-pos, pow-lt}
 use Rattle.limb.specs.Value.{valueIn, Below}
-use Rattle.number.specs.Limits.{leastPrecision, mostPrecision, bias, leastExponent, mostExponent, limbsFor}
-use Rattle.number.specs.Operand.{spareBits, mantissa, lastWeight, WellFormed}
+use Rattle.numbers.specs.Limits.{leastPrecision, mostPrecision, bias, leastExponent, mostExponent, limbsFor}
+use Rattle.numbers.specs.Operand.{spareBits, mantissa, lastWeight, WellFormed}
 use Rattle.rounding.specs.Mode.{Mode, nearest, upward, Way, way}
 use Rattle.rounding.specs.Select.{chosen}
 use Rattle.rounding.specs.Answer.{tooLarge, number, digits, signed, rounded, answer}

@@ -11,7 +11,7 @@ use lib.Pow.{pow-pos, pow-mono}
 use lib.Ieee.{size}
 use Rattle.rounding.specs.Mode.{Mode, Way, way}
 use Rattle.rounding.specs.Answer.{Answer, zeroOf, rounded, answer}
-use Rattle.number.specs.Limits.{leastExponent, mostExponent}
+use Rattle.numbers.specs.Limits.{leastExponent, mostExponent}
 use Rattle.rounding.proofs.Order.{Cmp, cmp, compare-at, size-mono}
 use Rattle.decide.proofs.Lean.{zero-or}
 use Rattle.rounding.proofs.Ends.{plus as positive, minus as negative, nought}

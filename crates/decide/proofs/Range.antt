@@ -13,7 +13,7 @@ use lib.Ieee.Digits.{size-lt, size-reaches}
 use Rattle.rounding.specs.Mode.{Way, near, under, over}
 use Rattle.rounding.specs.Select.{chosen}
 use Rattle.rounding.specs.Answer.{rounded, ranged, number, digits, signed, Answer, tooLarge, tooSmall}
-use Rattle.number.specs.Limits.{leastExponent, mostExponent}
+use Rattle.numbers.specs.Limits.{leastExponent, mostExponent}
 use Rattle.rounding.proofs.Order.{le-or-lt, size-mono, compare-at}
 use Rattle.rounding.proofs.Selection.{chosen-rep, chosen-mono, full}
 use Rattle.rounding.proofs.Between.{is-large, is-small, is-in, digits-one, turned-one}

@@ -7,12 +7,12 @@ use native.Mathlib.Nat.{le-trans, le-of-eq, suc-mul, zero-mul, add-mul, mul-le-m
 use native.Mathlib.Omega.{arith}
 use lib.Pow.{pow-pos, pow-add}
 use lib.Ieee.{size}
-use Rattle.number.specs.Operand.{Operand, mantissa, lastWeight, WellFormed}
+use Rattle.numbers.specs.Operand.{Operand, mantissa, lastWeight, WellFormed}
 use Rattle.rounding.specs.Sum.{amount}
 use Rattle.depth.specs.Read.{unread}
 use Rattle.rounding.proofs.Even.{size-is}
 use Rattle.rounding.proofs.Scale.{size-shift}
-use Rattle.number.proofs.Digits.{mantissa-lt, precision-two}
+use Rattle.numbers.proofs.Digits.{mantissa-lt, precision-two}
 use Rattle.depth.proofs.Columns.{digits-counted}
 use Rattle.depth.proofs.Reach.{base, digitsAt, end, at-least, at-most}
 use Rattle.depth.proofs.Amounts.{amount-end, amount-nil, like-end}

@@ -9,7 +9,7 @@ use borrow.Author.Tests.{ne-eqb}
 use lib.Dec.{eqb}
 use lib.Pow.{pow-pos, pow-mono}
 use lib.Ieee.{size}
-use Rattle.number.specs.Limits.{leastExponent, mostExponent}
+use Rattle.numbers.specs.Limits.{leastExponent, mostExponent}
 use Rattle.rounding.proofs.Order.{size-mono}
 use Rattle.decide.proofs.Lean.{Part, zero-or}
 use Rattle.decide.specs.Table.{some?}

@@ -3,7 +3,7 @@ use Prim.Native.Nat.{ℕ, _+_, _-_, _*_, _/_, _%_, _^_}
 use mathlib.Core.Bool.{Bool, not, cond, Bool·beq}
 use lib.Dec.{ltb, eqb}
 use lib.Ieee.{size}
-use Rattle.number.specs.Operand.{Operand, lastWeight}
+use Rattle.numbers.specs.Operand.{Operand, lastWeight}
 use Rattle.rounding.specs.Mode.{Mode, way, Way}
 use Rattle.rounding.specs.Answer.{Answer, zeroOf, number, rounded, tooLarge, tooSmall, ranged, signed}
 use Rattle.rounding.specs.Sum.{scale, zeroSign}

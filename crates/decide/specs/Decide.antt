@@ -2,7 +2,7 @@
 use Prim.Native.Nat.{ℕ, _+_, _-_, _*_, _/_, _^_}
 use mathlib.Core.Bool.{Bool, cond, _||_}
 use lib.Dec.{ltb}
-use Rattle.number.specs.Operand.{Operand, mantissa, lastWeight}
+use Rattle.numbers.specs.Operand.{Operand, mantissa, lastWeight}
 use Rattle.rounding.specs.Mode.{Mode}
 use Rattle.rounding.specs.Sum.{scale}
 use Rattle.depth.specs.Columns.{topExponent}

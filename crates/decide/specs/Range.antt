@@ -3,7 +3,7 @@ use Prim.Native.Nat.{ℕ, suc, _+_, _-_, _/_, _%_, _^_, Ordering, Ordering·lt, 
 use mathlib.Core.Bool.{Bool, cond, _&&_, _||_}
 use lib.Dec.{ltb, eqb}
 use lib.Ieee.{size}
-use Rattle.number.specs.Limits.{leastExponent, mostExponent}
+use Rattle.numbers.specs.Limits.{leastExponent, mostExponent}
 use Rattle.rounding.specs.Mode.{Way, near, under, over}
 use Rattle.decide.specs.Class.{lean, enough, settled}
 

@@ -3,11 +3,11 @@ use mathlib.Core.Path.{_≡_, refl, sym, ap, _∙_}
 use mathlib.Core.Bool.{Bool, true, false, not}
 use Prim.Native.Nat.{ℕ, _-_, _*_, _/_, _^_, _≤_, zero-le}
 use native.Mathlib.Nat.{le-trans, le-of-eq, mul-le-mul-right}
-use Rattle.number.specs.Operand.{Operand, mantissa, lastWeight, WellFormed}
+use Rattle.numbers.specs.Operand.{Operand, mantissa, lastWeight, WellFormed}
 use Rattle.rounding.specs.Sum.{amount, share}
 use Rattle.depth.specs.Columns.{Agree, Like}
 use Rattle.depth.specs.Read.{unread}
-use Rattle.number.proofs.Digits.{put, put-mantissa, put-well-formed}
+use Rattle.numbers.proofs.Digits.{put, put-mantissa, put-well-formed}
 use Rattle.depth.proofs.Columns.{like-by}
 use Rattle.depth.proofs.Reach.{digitsAt, end, at-least, at-most, read-at, between-ends}
 

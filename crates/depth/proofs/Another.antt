@@ -6,8 +6,8 @@ use native.Mathlib.Nat.{pow-succ', mul-left-comm}
 use native.Mathlib.Decide.{ℕ-discrete}
 use native.Mathlib.Omega.{arith}
 use lib.Pow.{pow-pos}
-use Rattle.number.specs.Operand.{Operand, mantissa, WellFormed}
-use Rattle.number.proofs.Digits.{precision-two}
+use Rattle.numbers.specs.Operand.{Operand, mantissa, WellFormed}
+use Rattle.numbers.proofs.Digits.{precision-two}
 use Rattle.depth.specs.Columns.{Like}
 use Rattle.depth.specs.Read.{unread}
 use Rattle.depth.proofs.Reach.{end, digitsAt}

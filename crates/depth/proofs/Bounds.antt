@@ -6,10 +6,10 @@ use native.Mathlib.Nat.{le-trans, le-of-lt}
 use native.Mathlib.Omega.{arith}
 use borrow.Author.Tests.{leb-true, leb-false}
 use lib.Dec.{leb}
-use Rattle.number.specs.Limits.{mostPrecision}
-use Rattle.number.specs.Operand.{Operand, WellFormed}
-use Rattle.number.proofs.Limits.{two-digits, precisions-some}
-use Rattle.number.proofs.Digits.{precision-two}
+use Rattle.numbers.specs.Limits.{mostPrecision}
+use Rattle.numbers.specs.Operand.{Operand, WellFormed}
+use Rattle.numbers.proofs.Limits.{two-digits, precisions-some}
+use Rattle.numbers.proofs.Digits.{precision-two}
 use Rattle.rounding.specs.Mode.{Mode}
 use Rattle.depth.specs.Columns.{topExponent}
 use Rattle.depth.specs.Depth.{plus, Fixed}

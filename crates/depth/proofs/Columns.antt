@@ -8,10 +8,10 @@ use native.Mathlib.Omega.{arith}
 use borrow.Author.Tests.{lt-ltb, le-ltb}
 use lib.Dec.{ltb}
 use lib.Pow.{pow-mono, shr-lt, shr-shr}
-use Rattle.number.specs.Limits.{mostPrecision, leastExponent}
-use Rattle.number.specs.Operand.{Operand, mantissa, lastWeight, WellFormed}
-use Rattle.number.proofs.Limits.{weights-counted}
-use Rattle.number.proofs.Digits.{mantissa-lt}
+use Rattle.numbers.specs.Limits.{mostPrecision, leastExponent}
+use Rattle.numbers.specs.Operand.{Operand, mantissa, lastWeight, WellFormed}
+use Rattle.numbers.proofs.Limits.{weights-counted}
+use Rattle.numbers.proofs.Digits.{mantissa-lt}
 use Rattle.rounding.proofs.Order.{le-or-lt}
 use Rattle.depth.specs.Columns.{bitAt, columnBit, Agree, Like}
 use Rattle.depth.specs.Read.{unread}

@@ -7,7 +7,7 @@ use native.Mathlib.Decide.{ℕ-discrete}
 use Prim.Native.Nat.{ℕ, _+_, _-_, _≤_, _<_, max, compare, Ordering, Ordering·lt, Ordering·eq, Ordering·gt}
 use native.Mathlib.Nat.{lt-of-lt-of-le, not-suc-le-zero, le-of-eq, add-le-add}
 use native.Mathlib.Omega.{arith}
-use Rattle.number.specs.Operand.{Operand, lastWeight, WellFormed}
+use Rattle.numbers.specs.Operand.{Operand, lastWeight, WellFormed}
 use Rattle.rounding.specs.Mode.{Mode, way}
 use Rattle.rounding.specs.Answer.{Answer, zeroOf, Answer-discrete, answer}
 use Rattle.rounding.specs.Sum.{scale, share, amount, zeroSign, sumAt, add}

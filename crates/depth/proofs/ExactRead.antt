@@ -6,12 +6,12 @@ use native.Mathlib.Omega.{arith}
 use lib.Dec.{ltb}
 use lib.Pow.{pow-pos}
 use lib.Ieee.{size}
-use Rattle.number.specs.Operand.{Operand, lastWeight, WellFormed}
+use Rattle.numbers.specs.Operand.{Operand, lastWeight, WellFormed}
 use Rattle.rounding.specs.Mode.{Mode, Way, way}
 use Rattle.rounding.specs.Sum.{amount, share, scale, zeroSign, add}
 use Rattle.rounding.specs.Select.{chosen}
 use Rattle.rounding.specs.Answer.{digits, signed, Answer, zeroOf, number, tooLarge, tooSmall, ranged, rounded, answer}
-use Rattle.number.specs.Limits.{leastExponent, mostExponent}
+use Rattle.numbers.specs.Limits.{leastExponent, mostExponent}
 use Rattle.depth.specs.Columns.{topExponent, Like}
 use Rattle.depth.specs.Read.{unread}
 use Rattle.depth.specs.Depth.{plus, result, Fixed}

@@ -5,7 +5,7 @@ use Prim.Native.Nat.{ℕ, zero, suc, _+_, _-_, _*_, _^_, _≤_, _<_, min, max}
 use native.Mathlib.Nat.{two-pow-succ, suc-mul, le-trans, le-of-eq, lt-of-lt-of-le, mul-le-mul-right, mul-one}
 use native.Mathlib.Omega.{arith}
 use lib.Pow.{pow-pos, pow-mono, pow-add}
-use Rattle.number.specs.Operand.{Operand, mantissa, lastWeight, WellFormed}
+use Rattle.numbers.specs.Operand.{Operand, mantissa, lastWeight, WellFormed}
 use Rattle.rounding.specs.Mode.{Mode, way}
 use Rattle.rounding.specs.Answer.{Answer, rounded, answer}
 use Rattle.rounding.specs.Sum.{amount, share, scale, zeroSign, sumAt}
@@ -13,7 +13,7 @@ use Rattle.depth.specs.Columns.{topExponent, Like}
 use Rattle.depth.specs.Read.{unread}
 use Rattle.depth.specs.Depth.{plus, result, Fixed}
 use Rattle.rounding.proofs.Selection.{multiple}
-use Rattle.number.proofs.Digits.{mantissa-lt, mantissa-ge, precision-two}
+use Rattle.numbers.proofs.Digits.{mantissa-lt, mantissa-ge, precision-two}
 use Rattle.depth.proofs.Columns.{digits-counted}
 use Rattle.depth.proofs.Place.{top-first}
 use Rattle.depth.proofs.Amounts.{amount-is, low-like, like-self}

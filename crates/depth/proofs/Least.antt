@@ -4,7 +4,7 @@ use mathlib.Core.Logic.{_⊎_, inl, inr}
 use Prim.Native.Nat.{ℕ, zero, suc, _-_, _≤_, _<_}
 use native.Mathlib.Nat.{le-refl, le-trans, le-antisymm, lt-of-lt-of-le}
 use native.Mathlib.Omega.{arith}
-use Rattle.number.specs.Operand.{Operand}
+use Rattle.numbers.specs.Operand.{Operand}
 use Rattle.rounding.specs.Mode.{Mode}
 use Rattle.rounding.proofs.Order.{le-or-lt}
 use Rattle.depth.specs.Columns.{topExponent, Agree, Like}

@@ -6,11 +6,11 @@ use Prim.Native.Nat.{ℕ, zero, suc, _+_, _-_, _*_, _/_, _^_, _≤_, _<_, max}
 use native.Mathlib.Nat.{le-trans, le-of-eq, le-of-lt, lt-of-lt-of-le, lt-of-le-of-lt, suc-mul, zero-mul, add-mul, mul-assoc, mul-le-mul-right, mul-lt-mul-of-pos-right, lt-of-mul-lt-mul-right, le-div-iff-mul-le}
 use native.Mathlib.Omega.{arith}
 use lib.Pow.{pow-pos, pow-mono, pow-add, ones-lt}
-use Rattle.number.specs.Operand.{Operand, mantissa, lastWeight, WellFormed}
+use Rattle.numbers.specs.Operand.{Operand, mantissa, lastWeight, WellFormed}
 use Rattle.depth.specs.Read.{unread}
 use Rattle.rounding.proofs.Order.{le-or-lt}
 use Rattle.rounding.proofs.Selection.{multiple}
-use Rattle.number.proofs.Digits.{mantissa-ge, precision-two}
+use Rattle.numbers.proofs.Digits.{mantissa-ge, precision-two}
 use Rattle.depth.proofs.Columns.{digits-counted}
 use Rattle.depth.proofs.Reach.{base, digitsAt, at-least, at-most}
 

@@ -4,7 +4,7 @@ use mathlib.Core.Bool.{Bool, true, false, cond}
 use Prim.Native.Nat.{ℕ, _-_, _*_, _≤_, min, max}
 use native.Mathlib.Nat.{le-refl, le-trans, le-of-eq, add-comm}
 use native.Mathlib.Omega.{arith}
-use Rattle.number.specs.Operand.{Operand, lastWeight}
+use Rattle.numbers.specs.Operand.{Operand, lastWeight}
 use Rattle.rounding.specs.Mode.{Mode}
 use Rattle.rounding.specs.Sum.{share, scale, zeroSign, sumAt, add}
 use Rattle.depth.specs.Columns.{topExponent, Like}

@@ -5,11 +5,11 @@ use Prim.Native.Nat.{ℕ, suc, _+_, _-_, _*_, _/_, _%_, _^_, _≤_, _<_, max}
 use native.Mathlib.Nat.{le-refl, le-trans, le-of-eq, lt-of-lt-of-le, suc-mul, mul-le-mul-right, mod-lt, div-add-mod', div-mul-le-self, div-eq-of-lt-le, div-lt-iff-lt-mul}
 use native.Mathlib.Omega.{arith}
 use lib.Pow.{pow-pos, pow-add}
-use Rattle.number.specs.Operand.{Operand, mantissa, WellFormed}
+use Rattle.numbers.specs.Operand.{Operand, mantissa, WellFormed}
 use Rattle.depth.specs.Columns.{Like}
 use Rattle.depth.specs.Read.{unread}
 use Rattle.depth.proofs.Columns.{read-of}
-use Rattle.number.proofs.Digits.{mantissa-lt, mantissa-ge, put}
+use Rattle.numbers.proofs.Digits.{mantissa-lt, mantissa-ge, put}
 
 -- ---- the numbers with the same quotient by 2 ^ t
 

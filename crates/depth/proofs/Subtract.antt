@@ -2,8 +2,8 @@
 use mathlib.Core.Path.{_≡_, refl, sym, ap, _∙_, subst}
 use mathlib.Core.Bool.{Bool, true, false, not}
 use Prim.Native.Nat.{ℕ}
-use Rattle.number.specs.Operand.{Operand, mantissa, lastWeight, WellFormed, turned}
-use Rattle.number.proofs.Digits.{turned-well-formed}
+use Rattle.numbers.specs.Operand.{Operand, mantissa, lastWeight, WellFormed, turned}
+use Rattle.numbers.proofs.Digits.{turned-well-formed}
 use Rattle.rounding.specs.Mode.{Mode}
 use Rattle.rounding.specs.Sum.{add, subtract}
 use Rattle.depth.specs.Columns.{topExponent, bitAt, columnBit, Agree, Like}

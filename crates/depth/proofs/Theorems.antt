@@ -6,8 +6,8 @@ use mathlib.Core.Bool.{Bool, true, false, _&&_, true≢false}
 use Prim.Native.Nat.{ℕ, _+_, _/_, _^_, _≤_, _<_}
 use native.Mathlib.Nat.{le-trans, le-of-eq}
 use native.Mathlib.Omega.{arith}
-use Rattle.number.specs.Limits.{mostPrecision}
-use Rattle.number.specs.Operand.{Operand, mantissa, WellFormed}
+use Rattle.numbers.specs.Limits.{mostPrecision}
+use Rattle.numbers.specs.Operand.{Operand, mantissa, WellFormed}
 use Rattle.rounding.specs.Mode.{Mode}
 use Rattle.rounding.specs.Sum.{share, scale, add}
 use Rattle.depth.specs.Columns.{topExponent, Agree, Like}

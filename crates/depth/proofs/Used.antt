@@ -5,8 +5,8 @@ use Prim.Native.Nat.{ℕ, _+_, _-_, _*_, _/_, _≤_, _<_, min, zero-le}
 use native.Mathlib.Omega.{arith}
 use borrow.Author.Tests.{leb-true, leb-false}
 use lib.Dec.{leb}
-use Rattle.number.specs.Limits.{limbsFor}
-use Rattle.number.specs.Operand.{Operand}
+use Rattle.numbers.specs.Limits.{limbsFor}
+use Rattle.numbers.specs.Operand.{Operand}
 use Rattle.depth.specs.Columns.{limbsUsed}
 
 least-of : (a b : ℕ) → min a b ≤ a

@@ -2,8 +2,8 @@
 use Prim.Native.Nat.{ℕ, _+_, _-_, _*_, _/_, max}
 use mathlib.Core.Bool.{cond}
 use lib.Dec.{leb}
-use Rattle.number.specs.Limits.{mostPrecision}
-use Rattle.number.specs.Operand.{Operand}
+use Rattle.numbers.specs.Limits.{mostPrecision}
+use Rattle.numbers.specs.Operand.{Operand}
 
 -- ceil(n/64)
 unfoldable pub columnsFor : ℕ → ℕ

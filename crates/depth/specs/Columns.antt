@@ -4,8 +4,8 @@ use Prim.Native.Nat.{ℕ, _+_, _-_, _*_, _/_, _%_, _^_, _≤_, _<_, min, max}
 use mathlib.Core.Path.{_≡_}
 use mathlib.Core.Bool.{Bool, true, false, cond}
 use lib.Dec.{ltb, leb}
-use Rattle.number.specs.Limits.{limbsFor}
-use Rattle.number.specs.Operand.{Operand, mantissa, lastWeight, WellFormed}
+use Rattle.numbers.specs.Limits.{limbsFor}
+use Rattle.numbers.specs.Operand.{Operand, mantissa, lastWeight, WellFormed}
 
 -- "Let E be the larger exponent among the regular operands." (Of two zeros there is none, and their depth asks for none.)
 unfoldable pub topExponent : Operand → Operand → ℕ

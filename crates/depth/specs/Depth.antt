@@ -2,7 +2,7 @@
 use Prim.Native.Nat.{ℕ, _-_, _≤_, _<_}
 use mathlib.Core.Path.{_≡_}
 use mathlib.Core.Bool.{Bool, true, false, _&&_}
-use Rattle.number.specs.Operand.{Operand}
+use Rattle.numbers.specs.Operand.{Operand}
 use Rattle.rounding.specs.Mode.{Mode}
 use Rattle.rounding.specs.Answer.{Answer}
 use Rattle.rounding.specs.Sum.{add, subtract}

@@ -6,8 +6,8 @@ use Prim.Native.Nat.{ℕ, _^_, _≤_, _<_, compare, Ordering, Ordering·lt, Orde
 use native.Mathlib.Nat.{le-antisymm}
 use borrow.Author.Tests.{eq-eqb, ne-eqb}
 use Rattle.limb.specs.Value.{Below}
-use Rattle.number.specs.Limits.{counted}
-use Rattle.number.specs.Operand.{Operand}
+use Rattle.numbers.specs.Limits.{counted}
+use Rattle.numbers.specs.Operand.{Operand}
 use Rattle.checks.specs.declared.Number.{Number}
 use Rattle.checks.specs.Number.{isZeroKind, operandOf}
 use Rattle.checks.specs.declared.Refusal.{Refusal}

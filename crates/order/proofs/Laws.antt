@@ -5,7 +5,7 @@ use Prim.Native.Nat.{ℕ, _+_, _-_, _*_, _^_, _<_, min, compare, Ordering, Order
 use native.Mathlib.Nat.{add-comm}
 use native.Mathlib.Omega.{arith}
 use lib.IntN.{negℤ}
-use Rattle.number.specs.Operand.{Operand, mantissa, lastWeight, turned}
+use Rattle.numbers.specs.Operand.{Operand, mantissa, lastWeight, turned}
 use Rattle.rounding.specs.Sum.{scale, amount, share}
 use Rattle.rounding.proofs.Order.{Cmp, cmp, compare-at}
 use Rattle.order.specs.Order.{orderOf, caseOf, numberOf}

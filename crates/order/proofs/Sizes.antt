@@ -9,10 +9,10 @@ use lib.ListN.{length}
 use lib.Pow.{pow-pos, pow-add, pow-mono}
 use Rattle.limb.specs.Value.{valueOf}
 use Rattle.limb.proofs.Value.{base-pow}
-use Rattle.number.specs.Limits.{mostPrecision, leastExponent, limbsFor}
-use Rattle.number.specs.Operand.{Operand, spareBits, mantissa, lastWeight, WellFormed}
-use Rattle.number.proofs.Limits.{weights-counted}
-use Rattle.number.proofs.Digits.{digits-and-spare, mantissa-lt, mantissa-ge, precision-two}
+use Rattle.numbers.specs.Limits.{mostPrecision, leastExponent, limbsFor}
+use Rattle.numbers.specs.Operand.{Operand, spareBits, mantissa, lastWeight, WellFormed}
+use Rattle.numbers.proofs.Limits.{weights-counted}
+use Rattle.numbers.proofs.Digits.{digits-and-spare, mantissa-lt, mantissa-ge, precision-two}
 use Rattle.rounding.specs.Sum.{scale, amount, share}
 use Rattle.rounding.proofs.Order.{le-or-lt, Cmp, cmp, compare-at}
 use Rattle.order.specs.Order.{orderOf}

@@ -5,7 +5,7 @@ use mathlib.Core.List.{List}
 use lib.Dec.{ltb}
 use lib.ListN.{length, getD}
 use Rattle.limb.specs.Value.{valueOf}
-use Rattle.number.specs.Operand.{Operand}
+use Rattle.numbers.specs.Operand.{Operand}
 
 -- limb i from the top; below the lowest stands 0
 unfoldable pub fromTop : List ℕ → ℕ → ℕ

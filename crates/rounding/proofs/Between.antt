@@ -12,9 +12,9 @@ use lib.Ieee.Digits.{size-le}
 use Rattle.rounding.specs.Mode.{Way, under}
 use Rattle.rounding.specs.Select.{chosen}
 use Rattle.rounding.specs.Answer.{Answer, number, tooLarge, tooSmall, ranged, digits, signed, rounded}
-use Rattle.number.specs.Limits.{leastExponent, mostExponent}
+use Rattle.numbers.specs.Limits.{leastExponent, mostExponent}
 use Rattle.rounding.proofs.Selection.{Rep, chosen-rep, chosen-mono, multiple}
-use Rattle.number.proofs.Limits.{range-some}
+use Rattle.numbers.proofs.Limits.{range-some}
 use Rattle.rounding.proofs.Order.{le-or-lt, Cmp, cmp, compare-at, mul-one-one, size-mono}
 
 -- ---- range

@@ -8,7 +8,7 @@ use borrow.Author.Tests.{lt-ltb, le-ltb}
 use lib.Dec.{ltb}
 use Rattle.rounding.specs.Mode.{Mode, Way, way}
 use Rattle.rounding.specs.Answer.{zeroOf, number, tooLarge, tooSmall, digits, signed, ranged, rounded, answer}
-use Rattle.number.specs.Limits.{leastExponent, mostExponent}
+use Rattle.numbers.specs.Limits.{leastExponent, mostExponent}
 use Rattle.rounding.specs.Select.{chosen}
 use Rattle.rounding.proofs.Order.{Cmp, cmp}
 use Rattle.rounding.proofs.Between.{between}

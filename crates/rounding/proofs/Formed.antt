@@ -8,8 +8,8 @@ use lib.ListN.{length, getD}
 use lib.Pow.{pow-pos}
 use lib.Ieee.Fits.{and-l, and-r}
 use Rattle.limb.specs.Value.{valueOf, Below}
-use Rattle.number.specs.Limits.{leastPrecision, mostPrecision, leastExponent, mostExponent, limbsFor}
-use Rattle.number.specs.Operand.{Operand, spareBits, WellFormed}
+use Rattle.numbers.specs.Limits.{leastPrecision, mostPrecision, leastExponent, mostExponent, limbsFor}
+use Rattle.numbers.specs.Operand.{Operand, spareBits, WellFormed}
 
 unfoldable pub all : List Bool → Bool
 all [] = true

@@ -8,8 +8,8 @@ use lib.Dec.{T, lit<}
 use lib.Pow.{pow-lt}
 use lib.Ieee.{size}
 use Rattle.limb.specs.Value.{valueIn}
-use Rattle.number.specs.Limits.{leastPrecision, mostPrecision, bias, leastExponent, mostExponent, limbsFor}
-use Rattle.number.specs.Operand.{Operand, lastWeight, mantissa, spareBits, turned, WellFormed}
+use Rattle.numbers.specs.Limits.{leastPrecision, mostPrecision, bias, leastExponent, mostExponent, limbsFor}
+use Rattle.numbers.specs.Operand.{Operand, lastWeight, mantissa, spareBits, turned, WellFormed}
 use Rattle.rounding.specs.Mode.{Mode, upward, downward, Way, way}
 use Rattle.rounding.specs.Select.{chosen, unit, quotient, onGrid}
 use Rattle.rounding.specs.Answer.{tooLarge, tooSmall, answer, rounded, ranged, digits, signed}

@@ -4,8 +4,8 @@ use mathlib.Core.Bool.{Bool, true, false, not, cond, Bool·beq}
 use Prim.Native.Nat.{ℕ, _+_, _<_, compare, Ordering, Ordering·lt, Ordering·eq, Ordering·gt}
 use lib.Dec.{ltb}
 use lib.Ieee.{size}
-use Rattle.number.specs.Limits.{leastExponent, mostExponent}
-use Rattle.number.specs.Operand.{Operand, mantissa, lastWeight, turned}
+use Rattle.numbers.specs.Limits.{leastExponent, mostExponent}
+use Rattle.numbers.specs.Operand.{Operand, mantissa, lastWeight, turned}
 use Rattle.rounding.specs.Mode.{Mode, nearest, zeroward, upward, downward, Way, way}
 use Rattle.rounding.specs.Select.{chosen}
 use Rattle.rounding.specs.Answer.{Answer, zeroOf, number, tooLarge, tooSmall, ranged, digits, signed, rounded}

@@ -8,7 +8,7 @@ use native.Mathlib.Omega.{arith}
 use lib.Pow.{pow-pos, pow-mono, pow-add}
 use lib.Ieee.{size}
 use lib.Ieee.Digits.{size-lt, size-reaches}
-use Rattle.number.specs.Limits.{bias, leastExponent, mostExponent}
+use Rattle.numbers.specs.Limits.{bias, leastExponent, mostExponent}
 use Rattle.rounding.specs.Mode.{Mode, Way, way}
 use Rattle.rounding.specs.Select.{chosen}
 use Rattle.rounding.specs.Answer.{Answer, number, tooLarge, tooSmall, ranged, digits, rounded}

@@ -6,10 +6,10 @@ use native.Mathlib.Nat.{le-refl, sub-self, mul-one, lt-of-lt-of-le, mul-div-canc
 use native.Mathlib.Omega.{arith}
 use lib.Pow.{pow-pos, pow-mono}
 use lib.Ieee.{size}
-use Rattle.number.specs.Limits.{leastExponent, mostPrecision}
-use Rattle.number.specs.Operand.{Operand, mantissa, lastWeight, WellFormed, turned, zeroLike}
-use Rattle.number.proofs.Limits.{weights-counted}
-use Rattle.number.proofs.Digits.{precision-two, mantissa-lt, mantissa-ge, turned-well-formed}
+use Rattle.numbers.specs.Limits.{leastExponent, mostPrecision}
+use Rattle.numbers.specs.Operand.{Operand, mantissa, lastWeight, WellFormed, turned, zeroLike}
+use Rattle.numbers.proofs.Limits.{weights-counted}
+use Rattle.numbers.proofs.Digits.{precision-two, mantissa-lt, mantissa-ge, turned-well-formed}
 use Rattle.rounding.specs.Mode.{Mode, way}
 use Rattle.rounding.specs.Select.{chosen}
 use Rattle.rounding.specs.Answer.{zeroOf, number, digits, signed, rounded, answer}

@@ -4,7 +4,7 @@ use mathlib.Core.Bool.{Bool, true, false}
 use Prim.Native.Nat.{ℕ, _+_, _-_, _≤_, _<_}
 use native.Mathlib.Omega.{arith}
 use lib.Ieee.{size}
-use Rattle.number.specs.Operand.{Operand}
+use Rattle.numbers.specs.Operand.{Operand}
 use Rattle.rounding.specs.Mode.{Mode, way}
 use Rattle.rounding.specs.Answer.{ranged, rounded}
 use Rattle.rounding.specs.Sum.{scale, zeroSign, sumAt, add}

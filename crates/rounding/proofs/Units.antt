@@ -7,8 +7,8 @@ use native.Mathlib.Nat.{le-refl, mul-comm, mul-assoc, mul-sub, add-mul, min-le-l
 use native.Mathlib.Omega.{arith}
 use lib.Pow.{pow-pos, pow-add}
 use lib.Ieee.{size}
-use Rattle.number.specs.Limits.{mostExponent}
-use Rattle.number.specs.Operand.{Operand, mantissa, lastWeight}
+use Rattle.numbers.specs.Limits.{mostExponent}
+use Rattle.numbers.specs.Operand.{Operand, mantissa, lastWeight}
 use Rattle.rounding.specs.Mode.{Mode, Way, way}
 use Rattle.rounding.specs.Select.{chosen}
 use Rattle.rounding.specs.Answer.{number, digits, signed, rounded, answer}

@@ -5,7 +5,7 @@ use mathlib.Core.Bool.{Bool, true, false, not, cond, Bool·beq, Bool·not-not, t
 use Prim.Native.Nat.{ℕ, _+_, _-_, _<_, compare, min, Ordering, Ordering·lt, Ordering·eq, Ordering·gt}
 use native.Mathlib.Nat.{add-comm, min-comm}
 use native.Mathlib.Omega.{arith}
-use Rattle.number.specs.Operand.{Operand, mantissa, lastWeight, turned, zeroLike}
+use Rattle.numbers.specs.Operand.{Operand, mantissa, lastWeight, turned, zeroLike}
 use Rattle.rounding.specs.Mode.{Mode, way}
 use Rattle.rounding.specs.Answer.{zeroOf}
 use Rattle.rounding.specs.Sum.{scale, amount, share, cancelled, zeroSign, sumAt, add, subtract, reround}

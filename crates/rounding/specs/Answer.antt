@@ -3,7 +3,7 @@ use Prim.Native.Nat.{ℕ, _+_, _-_, _*_, _/_, _^_, compare, Ordering, Ordering·
 use mathlib.Core.Bool.{Bool, true, false, cond}
 use lib.Dec.{ltb}
 use lib.Ieee.{size}
-use Rattle.number.specs.Limits.{leastExponent, mostExponent}
+use Rattle.numbers.specs.Limits.{leastExponent, mostExponent}
 use Rattle.rounding.specs.Mode.{Mode, Way, way}
 use Rattle.rounding.specs.Select.{chosen}
 

@@ -2,8 +2,8 @@
 use Prim.Native.Nat.{ℕ, _+_, _-_, _*_, _^_, Ordering, Ordering·lt, Ordering·eq, Ordering·gt}
 use mathlib.Core.Bool.{false}
 use mathlib.Core.List.{List, [], _∷_, _++_}
-use Rattle.number.specs.Limits.{bias}
-use Rattle.number.specs.Operand.{Operand}
+use Rattle.numbers.specs.Limits.{bias}
+use Rattle.numbers.specs.Operand.{Operand}
 use Rattle.rounding.specs.Mode.{Mode, nearest, zeroward, upward, downward}
 use Rattle.rounding.specs.Answer.{Answer, zeroOf, number}
 use Rattle.rounding.specs.Sum.{add, subtract}

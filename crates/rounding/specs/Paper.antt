@@ -5,7 +5,7 @@ use mathlib.Core.Path.{_≡_}
 use mathlib.Core.Logic.{_⊎_}
 use mathlib.Core.Bool.{Bool, true, false, not}
 use lib.Ieee.{size}
-use Rattle.number.specs.Operand.{Operand}
+use Rattle.numbers.specs.Operand.{Operand}
 use Rattle.rounding.specs.Mode.{Mode, nearest, zeroward, upward, downward}
 use Rattle.rounding.specs.Answer.{Answer, number, digits, signed}
 use Rattle.rounding.specs.Sum.{share}

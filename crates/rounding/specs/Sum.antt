@@ -1,7 +1,7 @@
 -- The exact sum of two operands in whole numbers, and the answer of demand 2: add, subtract, re-round. Definitions only.
 use Prim.Native.Nat.{ℕ, _+_, _-_, _*_, _^_, min}
 use mathlib.Core.Bool.{Bool, true, false, cond, Bool·beq}
-use Rattle.number.specs.Operand.{Operand, mantissa, lastWeight, turned, zeroLike}
+use Rattle.numbers.specs.Operand.{Operand, mantissa, lastWeight, turned, zeroLike}
 use Rattle.rounding.specs.Mode.{Mode}
 use Rattle.rounding.specs.Answer.{Answer, answer}
 

@@ -1,7 +1,7 @@
 -- `checks::exponent_holds`: exponents are compared as they are counted, by kind. Assumes nothing.
 use mathlib.Core.Path.{_≡_, sym, _∙_}
 use mir.Facts.{toZ-ofZ}
-use Rattle.number.specs.Limits.{counted}
+use Rattle.numbers.specs.Limits.{counted}
 use borrow.Author.Needs.{needs}
 use Rattle.checks.proofs.Tests.{zero-exponent, regular-exponent}
 use Rattle.checks.proofs.exponent_holds.Statement.{statement}

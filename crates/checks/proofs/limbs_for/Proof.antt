@@ -1,6 +1,6 @@
 -- `checks::limbs_for`: the quotient, and one limb more for what is left. Assumes nothing.
 use native.Mathlib.Omega.{arith}
-use Rattle.number.specs.Limits.{limbsFor}
+use Rattle.numbers.specs.Limits.{limbsFor}
 use borrow.Author.Needs.{needs}
 use Rattle.checks.proofs.limbs_for.Statement.{statement}
 use Rattle.checks.proofs.limbs_for.Tie as tie

@@ -1,6 +1,6 @@
 -- `checks::precision_holds`: the two comparisons of the definition. Assumes nothing.
 use mathlib.Core.Path.{refl}
-use Rattle.number.specs.Limits.{leastPrecision, mostPrecision}
+use Rattle.numbers.specs.Limits.{leastPrecision, mostPrecision}
 use Rattle.checks.specs.Check.{precisionHolds}
 use Rattle.checks.proofs.precision_holds.Statement.{statement}
 use Rattle.checks.proofs.precision_holds.Tie as tie

@@ -1,6 +1,6 @@
 -- `checks::spare_bits_hold`: the shift is the number of spare bits, below 64, so the divisor is 2 to it. Assumes nothing.
 use lib.Pow.{pow-pos}
-use Rattle.number.specs.Operand.{spareBits}
+use Rattle.numbers.specs.Operand.{spareBits}
 use Rattle.checks.specs.Check.{spareBitsHold}
 use borrow.Author.Needs.{needs}
 use Rattle.checks.proofs.Tests.{empty-spare, spare-divisor}

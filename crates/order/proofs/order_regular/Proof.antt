@@ -1,7 +1,7 @@
 -- `order::order_regular`: the exponents are compared as they are counted; where they are equal, the limbs decide. Assumes nothing.
 use mathlib.Core.Path.{_≡_}
 use mir.Facts.{toZ-ofZ}
-use Rattle.number.specs.Limits.{counted}
+use Rattle.numbers.specs.Limits.{counted}
 use Rattle.order.proofs.Cases.{lower-exponent, higher-exponent, same-exponent}
 use borrow.Author.Needs.{needs}
 use Rattle.order.proofs.order_regular.Statement.{statement}

@@ -6,7 +6,7 @@ use mathlib.Core.Bool.{Bool, true, false, not}
 use mathlib.Core.List.{List}
 use lib.ListN.{length}
 use Rattle.limb.specs.Value.{valueOf, Below}
-use Rattle.number.specs.Limits.{leastPrecision, mostPrecision, bias, leastExponent, mostExponent, limbsFor}
+use Rattle.numbers.specs.Limits.{leastPrecision, mostPrecision, bias, leastExponent, mostExponent, limbsFor}
 
 -- "A number is a sign, a kind (regular or zero), a precision p, an exponent e and its limbs." The exponent is counted.
 pub record Operand : Type 0 where

@@ -9,10 +9,10 @@ use lib.ListN.{length, getD}
 use lib.Pow.{pow-pos, pow-add, shr-lt, shl-shr, shl-lt}
 use Rattle.limb.specs.Value.{valueIn, valueOf, Below}
 use Rattle.limb.proofs.Value.{value-lt, base-pow}
-use Rattle.number.specs.Limits.{leastPrecision, limbsFor}
-unfoldable pub use Rattle.number.specs.Limbs.{limbsOf}
-use Rattle.number.specs.Operand.{Operand, mantissa, lastWeight, spareBits, Regular, WellFormed, turned, zeroLike}
-use Rattle.number.proofs.Limits.{two-digits, limbs-hold}
+use Rattle.numbers.specs.Limits.{leastPrecision, limbsFor}
+unfoldable pub use Rattle.numbers.specs.Limbs.{limbsOf}
+use Rattle.numbers.specs.Operand.{Operand, mantissa, lastWeight, spareBits, Regular, WellFormed, turned, zeroLike}
+use Rattle.numbers.proofs.Limits.{two-digits, limbs-hold}
 
 -- ---- the n limbs of v
 
