@@ -7,6 +7,7 @@ use Rattle.rounding.specs.Mode.{Mode}
 use Rattle.depth.specs.Columns.{topExponent, Like}
 use Rattle.depth.specs.Read.{unread}
 use Rattle.depth.specs.Depth.{Operation, result, Fixed}
+use Rattle.depth.proofs.Place.{other-top, fixed-swap}
 use Rattle.depth.proofs.Subtract.{addend, addend-well-formed, addend-exponent, addend-zero, result-is, top-is, like-sum, like-second-sum, fixed-result, fixed-sum}
 use Rattle.depth.proofs.Theorems.{unread-addend}
 use Rattle.decide.specs.Decide.{reaches?, leftOver, decideAt}
@@ -55,7 +56,7 @@ module _ (f : Operation) (o : Mode) (p : ℕ) (P : 0 < p) (x y : Operand) (g : W
       let i = unread-addend f (topExponent x y) k y in let j = reaches-addend f (topExponent x y) k y in let l = left-addend f (topExponent x y) k y in
       covers o p P x (addend f y) g second k K (fixed-sum f o p x y k u) (subst Accepted (result-is f o p x y) a) (rw (t, i) b) (rw (t, j) c) (rw (t, l) n)
 
-  -- ---- within a hole, where all of x is read and nothing of y, the verdict is the same for every k
+  -- ---- within a hole, where all of the one is read and nothing of the other, the verdict is the same for every k
 
   pub hole-verdict : (j k : ℕ) → 1 ≤ j → 1 ≤ k → InHole x y j → InHole x y k → Fixed f o p x y j → Fixed f o p x y k
   hole-verdict j k J K a b u = fixed-result f o p x y k (hole-same o p x (addend f y) P g second j k J K (hole-addend j a) (hole-addend k b) (fixed-sum f o p x y j u))
@@ -65,4 +66,20 @@ module _ (f : Operation) (o : Mode) (p : ℕ) (P : 0 < p) (x y : Operand) (g : W
         regular = addend-zero f y ∙ a .regular;
         unseen = rw (top-is f x y, addend-exponent f y) (a .unseen);
         read = rw (top-is f x y) (a .read);
+      }
+
+  pub hole-verdict-above : (j k : ℕ) → 1 ≤ j → 1 ≤ k → InHole y x j → InHole y x k → Fixed f o p x y j → Fixed f o p x y k
+  hole-verdict-above j k J K a b u =
+      let r = other-top y x j J (a .regular) (a .unseen) .0 in
+      fixed-result f o p x y k (fixed-swap o p x (addend f y) k (a .regular)
+      (hole-same o p (addend f y) x P second g j k J K (hole-addend j a) (hole-addend k b) (fixed-swap o p (addend f y) x j (addend-zero f y ∙ r) (fixed-sum f o p x y j u))))
+    where
+      top : topExponent (addend f y) x ≡ topExponent y x
+      top = unfold topExponent in let c = addend-zero f y in let d = addend-exponent f y in cc
+
+      hole-addend : (i : ℕ) → InHole y x i → InHole (addend f y) x i
+      hole-addend i a = record {
+        regular = a .regular;
+        unseen = rw top (a .unseen);
+        read = rw (top, unread-addend f (topExponent y x) i y) (a .read);
       }

@@ -1,5 +1,5 @@
 -- What is known of columns and depth, over all well-formed operands, for sums and differences, gathered for a reader; the proofs stand in the files that are cited.
--- Besides: today's `deepest` is 129 (Bounds), the limbs used (Used), document 01's depths (Examples), the answer from what is read (Answered).
+-- Besides: today's `deepest` is 129 (Bounds), and the limbs used (Used). The decision on what is read, and document 01's depths, stand in the crate decide.
 use mathlib.Core.Path.{_≡_, refl, sym, ap, _∙_, subst}
 use mathlib.Core.Logic.{_⊎_, inl, inr}
 use mathlib.Core.Bool.{Bool, true, false, _&&_, true≢false}
