@@ -275,24 +275,16 @@ pub fn check_pair(
 ) -> Refusal
     ensures { λ r. ⌜ r ≡ pairRefusal mode (operandOf x (now (xl .entry))) (operandOf y (now (yl .entry))) p n ⌝ }
 {
-    first_refusal(
-        mode <= MOST_MODE,
-        judge(x, xl),
-        judge(y, yl),
-        judge_target(p, n),
-    )
+    let target = judge_target(p, n);
+    first_refusal(mode <= MOST_MODE, judge(x, xl), judge(y, yl), target)
 }
 
 // The same of one operand and a target.
 pub fn check_single(mode: u8, x: Number, xl: &[u64], p: u64, n: usize) -> Refusal
     ensures { λ r. ⌜ r ≡ singleRefusal mode (operandOf x (now (xl .entry))) p n ⌝ }
 {
-    first_refusal(
-        mode <= MOST_MODE,
-        judge(x, xl),
-        absent(),
-        judge_target(p, n),
-    )
+    let target = judge_target(p, n);
+    first_refusal(mode <= MOST_MODE, judge(x, xl), absent(), target)
 }
 
 // Refusals 2 to 5 of two operands, without a mode or a target.
@@ -313,5 +305,6 @@ pub fn check_converted(mode: u8, x: Number, xl: &[u64]) -> Refusal
 pub fn check_alone(x: Number, xl: &[u64]) -> Refusal
     ensures { λ r. ⌜ r ≡ aloneRefusal (operandOf x (now (xl .entry))) ⌝ }
 {
-    first_refusal(true, judge(x, xl), absent(), absent())
+    let only = judge(x, xl);
+    first_refusal(true, only, absent(), absent())
 }
