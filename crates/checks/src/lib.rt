@@ -1,9 +1,6 @@
 // Numbers as a caller hands them over, and refusals 1 to 5 in their one order.
 ghost use mathlib.Core.Path.{_≡_};
-ghost use mathlib.Core.Bool.{Bool, true, not};
 ghost use mathlib.Core.List.{[]};
-ghost use Prim.Native.Nat.{ℕ, _+_, _-_, _*_, _^_, _≤_, _<_};
-ghost use lib.ListN.{length, getD};
 ghost use Rattle.number.specs.Limits.{counted, limbsFor};
 ghost use Rattle.checks.specs.Number.{isZeroKind, operandOf, turnedNumber, exponentOf, fetched};
 ghost use Rattle.checks.specs.Check.{precisionHolds, lengthHolds, exponentHolds, topBitHolds, spareBitsHold, formHolds, pairRefusal, singleRefusal, comparedRefusal, convertedRefusal, aloneRefusal};
