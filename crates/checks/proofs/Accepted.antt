@@ -1,18 +1,17 @@
 -- What is accepted is of good form, and what is of good form is accepted. Assumes nothing.
-use mathlib.Core.Path.{_≡_, refl, sym, ap, _∙_}
-use mathlib.Core.Bool.{Bool, true, false, _&&_, true≢false}
-use mathlib.Core.List.{List, [], _∷_}
-use Prim.Native.Nat.{ℕ, _+_, _-_, _*_, _%_, _^_, _≤_, _<_}
+use mathlib.Core.Path.{_≡_, refl, sym, _∙_}
+use mathlib.Core.Bool.{Bool, true, false}
+use Prim.Native.Nat.{ℕ, _-_, _%_, _^_, _≤_, _<_}
 use native.Mathlib.Nat.{le-of-lt}
 use native.Mathlib.Omega.{arith}
 use lib.ListN.{length, getD}
-use lib.Dec.{leb, eqb}
+use lib.Dec.{leb}
 use borrow.Author.Tests.{leb-true, le-leb, eqb-true, eq-eqb}
-use Rattle.limb.specs.Value.{valueOf, Below}
+use Rattle.limb.specs.Value.{Below}
 use Rattle.numbers.specs.Limits.{leastPrecision, mostPrecision, bias, leastExponent, mostExponent, limbsFor}
-use Rattle.numbers.specs.Operand.{Operand, spareBits, Regular, WellFormed}
+use Rattle.numbers.specs.Operand.{Operand, spareBits, WellFormed}
 use Rattle.numbers.proofs.Limits.{two-digits, limbs-hold}
-use Rattle.checks.specs.Check.{accepted, modeHolds, precisionHolds, lengthHolds, exponentHolds, topBitHolds, spareBitsHold, formHolds, firstRefusal, pairRefusal, singleRefusal, comparedRefusal, convertedRefusal, aloneRefusal}
+use Rattle.checks.specs.Check.{accepted, modeHolds, precisionHolds, lengthHolds, exponentHolds, topBitHolds, spareBitsHold, formHolds, pairRefusal, singleRefusal, comparedRefusal, convertedRefusal, aloneRefusal}
 use Rattle.checks.proofs.Tables.{all-accepted, accepted-all, unrefused-accepted, both}
 use Rattle.checks.proofs.Tests.{spare-lt}
 use Rattle.checks.proofs.Form.{top-bit-lead, lead-top-bit, spare-low}

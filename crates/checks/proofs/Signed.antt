@@ -1,11 +1,9 @@
 -- Laws of a signed exponent and how it is counted. Assumes nothing.
-use mathlib.Core.Path.{_≡_, refl, sym, ap, _∙_}
-use mathlib.Core.Bool.{true, _&&_}
+use mathlib.Core.Path.{_≡_, sym, ap, _∙_}
 use Prim.Native.Nat.{ℕ, suc, _+_, _-_, _^_, _≤_, _<_}
 use native.Mathlib.Nat.{add-comm, lt-of-not-le}
 use native.Mathlib.Decide.{decLe}
 use native.Mathlib.Omega.{arith}
-use lib.Dec.{ltb, leb}
 use lib.IntN.{ℤ, pos, negsuc, _+ℤ_, _-ℤ_, subℕ}
 use mir.Syntax.{w32, w64}
 use mir.Val.{SFits, toZ, ofZ}
@@ -71,3 +69,9 @@ exponent-below c h = simp (lt-leb 1097364144128 c h)
 pub exponent-above : (c : ℕ) → 1101659111423 < c → pos 0 ≡ exponentOf c
 unfolding exponentOf bias
 exponent-above c h = simp (le-leb 1097364144128 c (omega arith), le-ltb c 1101659111424 h)
+
+-- every exponent comes back as it was
+pub exponent-of-counted : (z : ℤ) → SFits w32 z → exponentOf (counted z) ≡ z
+unfolding exponentOf counted bias
+exponent-of-counted (pos n) h = simp (le-leb 1097364144128 (1099511627776 + n) (omega arith), lt-ltb (1099511627776 + n) 1101659111424 (omega arith), le-ltb (1099511627776 + n) 1099511627776 (omega arith)) (ap pos (omega arith))
+exponent-of-counted (negsuc n) h = simp (le-leb 1097364144128 (1099511627776 - suc n) (omega arith), lt-ltb (1099511627776 - suc n) 1101659111424 (omega arith), lt-ltb (1099511627776 - suc n) 1099511627776 (omega arith)) (ap negsuc (omega arith))

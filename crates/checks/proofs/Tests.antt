@@ -1,12 +1,12 @@
 -- What each test of the code says of the definitions: by kind, and of the lowest and the top limb. Assumes nothing.
-use mathlib.Core.Path.{_≡_, refl, sym, ap, _∙_}
+use mathlib.Core.Path.{_≡_, refl, sym}
 use mathlib.Core.Bool.{Bool, true, false, _&&_}
 use mathlib.Core.List.{List, [], _∷_}
-use Prim.Native.Nat.{ℕ, zero, suc, _+_, _-_, _*_, _/_, _%_, _^_, _≤_, _<_}
-use native.Mathlib.Nat.{mod-eq-of-lt, one-mul, zero-lt-suc}
+use Prim.Native.Nat.{ℕ, _-_, _*_, _%_, _^_, _<_}
+use native.Mathlib.Nat.{mod-eq-of-lt, one-mul}
 use native.Mathlib.Omega.{arith}
 use lib.Dec.{leb, eqb}
-use lib.ListN.{length, getD}
+use lib.ListN.{length}
 use lib.Pow.{pow-pos, pow-lt}
 use borrow.Author.Tests.{eq-eqb}
 use Rattle.numbers.specs.Limits.{counted, bias, leastExponent, mostExponent, limbsFor}

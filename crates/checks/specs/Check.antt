@@ -1,9 +1,9 @@
 -- Refusals 1 to 5, in their one order. Definitions only.
 -- Document 01, "Refusal numbers, in order of checking": number by number, and within a number first, second, target.
 use Prim.Native.Nat.{ℕ, _-_, _%_, _^_}
-use mathlib.Core.Bool.{Bool, true, false, cond, _&&_}
+use mathlib.Core.Bool.{Bool, true, cond, _&&_}
 use mathlib.Core.List.{List, [], _∷_}
-use lib.Dec.{ltb, leb, eqb}
+use lib.Dec.{leb, eqb}
 use lib.ListN.{length, getD}
 use Rattle.numbers.specs.Limits.{leastPrecision, mostPrecision, bias, leastExponent, mostExponent, limbsFor}
 use Rattle.numbers.specs.Operand.{Operand, spareBits}

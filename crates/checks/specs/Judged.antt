@@ -1,6 +1,6 @@
 -- The tests of one operand or target at once, and the first place of a rule where one fails. Definitions only.
 use Prim.Native.Nat.{ℕ}
-use mathlib.Core.Bool.{Bool, true, false, cond}
+use mathlib.Core.Bool.{Bool, true, cond}
 use mathlib.Core.List.{[], _∷_}
 use lib.ListN.{length}
 use Rattle.numbers.specs.Operand.{Operand}

@@ -1,9 +1,6 @@
 // Numbers as a caller hands them over, and refusals 1 to 5 in their one order.
 ghost use mathlib.Core.Path.{_≡_};
-ghost use mathlib.Core.Bool.{Bool, true, not};
 ghost use mathlib.Core.List.{[]};
-ghost use Prim.Native.Nat.{ℕ, _+_, _-_, _*_, _^_, _≤_, _<_};
-ghost use lib.ListN.{length, getD};
 ghost use Rattle.numbers.specs.Limits.{counted, limbsFor};
 ghost use Rattle.checks.specs.Number.{isZeroKind, operandOf, turnedNumber, exponentOf, fetched};
 ghost use Rattle.checks.specs.Check.{precisionHolds, lengthHolds, exponentHolds, topBitHolds, spareBitsHold, formHolds, pairRefusal, singleRefusal, comparedRefusal, convertedRefusal, aloneRefusal};
@@ -275,24 +272,16 @@ pub fn check_pair(
 ) -> Refusal
     ensures { λ r. ⌜ r ≡ pairRefusal mode (operandOf x (now (xl .entry))) (operandOf y (now (yl .entry))) p n ⌝ }
 {
-    first_refusal(
-        mode <= MOST_MODE,
-        judge(x, xl),
-        judge(y, yl),
-        judge_target(p, n),
-    )
+    let target = judge_target(p, n);
+    first_refusal(mode <= MOST_MODE, judge(x, xl), judge(y, yl), target)
 }
 
 // The same of one operand and a target.
 pub fn check_single(mode: u8, x: Number, xl: &[u64], p: u64, n: usize) -> Refusal
     ensures { λ r. ⌜ r ≡ singleRefusal mode (operandOf x (now (xl .entry))) p n ⌝ }
 {
-    first_refusal(
-        mode <= MOST_MODE,
-        judge(x, xl),
-        absent(),
-        judge_target(p, n),
-    )
+    let target = judge_target(p, n);
+    first_refusal(mode <= MOST_MODE, judge(x, xl), absent(), target)
 }
 
 // Refusals 2 to 5 of two operands, without a mode or a target.
@@ -313,5 +302,6 @@ pub fn check_converted(mode: u8, x: Number, xl: &[u64]) -> Refusal
 pub fn check_alone(x: Number, xl: &[u64]) -> Refusal
     ensures { λ r. ⌜ r ≡ aloneRefusal (operandOf x (now (xl .entry))) ⌝ }
 {
-    first_refusal(true, judge(x, xl), absent(), absent())
+    let only = judge(x, xl);
+    first_refusal(true, only, absent(), absent())
 }

@@ -1,7 +1,7 @@
 -- The order of two numbers is an order: equal to itself, reversed with its operands, and so under a turn of both signs. Assumes nothing.
 use mathlib.Core.Path.{_≡_, refl, sym, ap, _∙_}
 use mathlib.Core.Bool.{Bool, true, false, not, cond, Bool·beq, true≢false}
-use Prim.Native.Nat.{ℕ, _+_, _-_, _*_, _^_, _<_, min, compare, Ordering, Ordering·lt, Ordering·eq, Ordering·gt}
+use Prim.Native.Nat.{ℕ, _+_, _-_, _*_, _^_, min, compare, Ordering, Ordering·lt, Ordering·eq, Ordering·gt}
 use native.Mathlib.Nat.{add-comm}
 use native.Mathlib.Omega.{arith}
 use lib.IntN.{negℤ}

@@ -1,15 +1,14 @@
 -- The order of two numbers of good form: signs, zeros, exponents and limbs decide it. Assumes nothing.
 use mathlib.Core.Path.{_≡_, refl, sym, ap, _∙_, subst}
-use mathlib.Core.Logic.{_⊎_, inl, inr}
+use mathlib.Core.Logic.{inl, inr}
 use mathlib.Core.Bool.{Bool, true, false, cond, _&&_, Bool·beq, true≢false}
-use Prim.Native.Nat.{ℕ, zero, suc, _+_, _-_, _*_, _/_, _%_, _^_, _≤_, _<_, min, compare, Ordering, Ordering·lt, Ordering·eq, Ordering·gt}
+use Prim.Native.Nat.{ℕ, _+_, _-_, _*_, _/_, _^_, _≤_, _<_, min, compare, Ordering, Ordering·lt, Ordering·eq, Ordering·gt}
 use native.Mathlib.Nat.{le-trans, le-of-eq, le-refl, lt-of-lt-of-le, mul-assoc, mul-le-mul-right, mul-lt-mul-of-pos-right, div-add-mod', add-zero, zero-add}
 use native.Mathlib.Omega.{arith}
 use lib.ListN.{length}
 use lib.Pow.{pow-pos, pow-add, pow-mono}
 use Rattle.limb.specs.Value.{valueOf}
 use Rattle.limb.proofs.Value.{base-pow}
-use Rattle.numbers.specs.Limits.{mostPrecision, leastExponent, limbsFor}
 use Rattle.numbers.specs.Operand.{Operand, spareBits, mantissa, lastWeight, WellFormed}
 use Rattle.numbers.proofs.Limits.{weights-counted}
 use Rattle.numbers.proofs.Digits.{digits-and-spare, mantissa-lt, mantissa-ge, precision-two}

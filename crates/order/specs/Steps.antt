@@ -1,6 +1,6 @@
 -- The order as it is found: signs, zeros, exponents, then limbs from the top. Definitions only.
 use Prim.Native.Nat.{ℕ, _-_, _*_, _^_, compare, Ordering, Ordering·lt, Ordering·eq, Ordering·gt}
-use mathlib.Core.Bool.{Bool, true, false, cond, _&&_, Bool·beq}
+use mathlib.Core.Bool.{cond, _&&_, Bool·beq}
 use mathlib.Core.List.{List}
 use lib.Dec.{ltb}
 use lib.ListN.{length, getD}

@@ -17,9 +17,9 @@ first-refusal-requires : tie.Need-first-refusal-requires
 first-refusal-requires c κs = search needs
 
 returns : tie.Need-returns
-returns c = pair-refusal _ _ _ _ _ (c .first-refusal .ensures) (c .before .before .before .judge .ensures) (c .before .before .judge2 .ensures) (c .before .judge-target .ensures)
+returns c = pair-refusal _ _ _ _ _ (c .first-refusal .ensures) (c .before .before .judge .ensures) (c .before .judge2 .ensures) (c .before .before .before .judge-target .ensures)
 
 pub check-pair-spec : {M : Type 1} → statement M
 check-pair-spec =
     tie.close
-    (tie.spec judge-requires judge-requires-2 judge-target-requires first-refusal-requires returns)
+    (tie.spec judge-target-requires judge-requires judge-requires-2 first-refusal-requires returns)

@@ -17,9 +17,9 @@ first-refusal-requires : tie.Need-first-refusal-requires
 first-refusal-requires c κs = search needs
 
 returns : tie.Need-returns
-returns c = single-refusal _ _ _ _ (c .first-refusal .ensures) (c .before .before .before .judge .ensures) (c .before .before .absent .ensures) (c .before .judge-target .ensures)
+returns c = single-refusal _ _ _ _ (c .first-refusal .ensures) (c .before .before .judge .ensures) (c .before .absent .ensures) (c .before .before .before .judge-target .ensures)
 
 pub check-single-spec : {M : Type 1} → statement M
 check-single-spec =
     tie.close
-    (tie.spec judge-requires absent-requires judge-target-requires first-refusal-requires returns)
+    (tie.spec judge-target-requires judge-requires absent-requires first-refusal-requires returns)
