@@ -1,14 +1,14 @@
 -- The steps put together: from a run that the rules let pass to the answer and the target. Assumes nothing.
 use mathlib.Core.Path.{_≡_, refl, sym, ap, _∙_, subst}
-use mathlib.Core.Bool.{Bool, true, false, cond}
+use mathlib.Core.Bool.{Bool}
 use mathlib.Core.List.{List}
 use Prim.Native.Nat.{ℕ, _+_, _-_, _*_, _/_, _%_, _^_, _≤_, _<_}
-use native.Mathlib.Nat.{le-trans, le-of-eq, lt-of-lt-of-le}
+use native.Mathlib.Nat.{lt-of-lt-of-le}
 use native.Mathlib.Omega.{arith}
 use lib.Dec.{eqb}
 use lib.IntN.{ℤ}
 use lib.ListN.{length, getD}
-use lib.Pow.{pow-pos, shl-shr}
+use lib.Pow.{shl-shr}
 use mir.Val.{boolByte}
 use borrow.Author.Tests.{eq-eqb, ne-eqb}
 use Rattle.limb.specs.Carry.{bit}
@@ -29,7 +29,7 @@ use Rattle.place.specs.Rounded.{refusedBy, roundedPlaced, roundedLimbs}
 use Rattle.place.specs.Walk.{headed, whole, Reaches, Holds, isFull, asDigits, RoundedUp, Settled}
 use Rattle.place.proofs.Placing.{rounded-at, settled}
 use Rattle.place.proofs.Reach.{reach-most, whole-lt, whole-ge, rest-low}
-use Rattle.place.proofs.Rules.{Passed, passed, some-limbs, few-limbs, digits-fit, spare-few, spare-is}
+use Rattle.place.proofs.Rules.{Passed, passed, some-limbs, digits-fit, spare-few, spare-is}
 
 -- ---- refused, or not
 
@@ -52,6 +52,11 @@ module _ (mode p : ℕ) (negative : Bool) (unit : ℕ) (carry : Bool) (t : List 
   pub limbs-refused : (rule : ℕ) → rule ≡ runRule p carry t unit → (rule ≡ 0 → ⊥) → roundedLimbs mode p negative unit carry t guard more ≡ t
   unfolding roundedLimbs
   limbs-refused rule e h = rw (ne-eqb (runRule p carry t unit) 0 (λ z. h (e ∙ z))) refl
+
+  -- two answers that meet the promise are one
+  pub rounded-unique : (r s : Placed) (x y : List ℕ) → r ≡ roundedPlaced mode p negative unit carry t guard more → s ≡ roundedPlaced mode p negative unit carry t guard more
+      → x ≡ roundedLimbs mode p negative unit carry t guard more → y ≡ roundedLimbs mode p negative unit carry t guard more → (r ≡ s) × (x ≡ y)
+  rounded-unique r s x y a b c d = (a ∙ sym b, c ∙ sym d)
 
 -- ---- rounded
 

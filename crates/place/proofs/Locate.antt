@@ -1,24 +1,24 @@
 -- Laws of locations: how the digits below the last kept one tell them, and what follows from one for the quotient and the ternary
 -- value, on numbers q * u + x with x below the unit u. Assumes nothing.
-use mathlib.Core.Path.{_≡_, refl, sym, ap, _∙_, subst}
+use mathlib.Core.Path.{_≡_, refl, sym, ap, _∙_}
 use mathlib.Core.Logic.{_⊎_, inl, inr}
 use mathlib.Core.Bool.{Bool, true, false, not, _||_}
 use Prim.Native.Nat.{ℕ, zero, suc, _+_, _-_, _*_, _/_, _%_, _^_, _≤_, _<_, compare, Ordering, Ordering·lt, Ordering·eq, Ordering·gt}
-use native.Mathlib.Nat.{mul-add-mod-self-right, mul-add-div-right, mod-eq-of-lt, div-eq-of-lt, div-eq-of-lt-le, div-add-mod', mul-assoc, mul-comm, mod-lt, mul-le-mul-right, pow-suc, suc-mul}
+use native.Mathlib.Nat.{mul-add-mod-self-right, div-eq-of-lt-le, div-add-mod', mul-assoc, mul-le-mul-right, suc-mul}
 use native.Mathlib.Decide.{decLe}
 use native.Mathlib.Omega.{arith}
 use lib.Dec.{eqb}
 use lib.Ieee.{nearest}
-use lib.Pow.{pow-pos, pow-add, mod-pow-add, high, low}
-use borrow.Author.Tests.{eq-eqb, ne-eqb, eqb-true, eqb-false}
+use lib.Pow.{pow-add, mod-pow-add, high, low}
+use borrow.Author.Tests.{eqb-true, eqb-false}
 use Rattle.limb.specs.Carry.{bit}
 use Rattle.limb.proofs.Carry.{bit-le}
 use Rattle.rounding.specs.Mode.{Way, near, under, over}
 use Rattle.rounding.specs.Select.{quotient}
-use Rattle.rounding.proofs.Order.{le-or-lt, Cmp, cmp, compare-at}
+use Rattle.rounding.proofs.Order.{Cmp, cmp, compare-at}
 use Rattle.place.specs.declared.Location.{Location}
 use Rattle.place.specs.declared.Location.the-variants.{Exact, Lower, Tie, Upper}
-use Rattle.place.specs.Location.{fromMiddle, locationOf, goesOut, goesUp, inexact, side}
+use Rattle.place.specs.Location.{fromMiddle, locationOf, goesUp, inexact, side}
 
 -- ---- where a rest lies
 
@@ -35,14 +35,12 @@ at-something o (suc x) u h c = ap fromMiddle (compare-at o (suc x * 2) u c)
 -- whether something is left of a part l below, or more
 pub something : (l : ℕ) (more : Bool) → (not (eqb l 0) || more) ≡ true → 0 < l + bit more
 unfolding bit
-something l true e = omega arith
-something l false e = elim (decLe 1 l) [ yes h ↦ omega arith | no h ↦ absurd (never l (eq-eqb l 0 (omega arith)) e) ]
+something l more e = go (eqb l 0) more refl e
   where
-    never : (l : ℕ) → eqb l 0 ≡ true → (not (eqb l 0) || false) ≡ true → ⊥
-    never l f e = let z : _≡_ {A = ℕ} 0 1 = absurd (clash (sym e ∙ ap (λ (b : Bool). not b || false) f)) in omega arith
-      where
-        clash : true ≡ false → ⊥
-        clash e = let z : _≡_ {A = ℕ} 0 1 = cc in omega arith
+    go : (b m : Bool) → eqb l 0 ≡ b → (not b || m) ≡ true → 0 < l + bit m
+    go true true f e = omega arith
+    go true false f e = absurd (let z : _≡_ {A = ℕ} 0 1 = cc in omega arith)
+    go false m f e = let z : l ≡ 0 → ⊥ = eqb-false l 0 f in omega arith
 
 pub nothing : (l : ℕ) (more : Bool) → (not (eqb l 0) || more) ≡ false → l + bit more ≡ 0
 unfolding bit

@@ -1,9 +1,9 @@
 -- Laws of the modes: which of them go away from zero, and what each makes of a location. Assumes nothing.
-use mathlib.Core.Path.{_≡_, refl, sym, ap, _∙_}
+use mathlib.Core.Path.{_≡_, refl}
 use mathlib.Core.Bool.{Bool, true, false, not}
 use Prim.Native.Nat.{ℕ, zero, suc, _≤_, _<_}
 use native.Mathlib.Omega.{arith}
-use lib.IntN.{ℤ, pos}
+use lib.IntN.{pos}
 use Rattle.rounding.specs.Answer.{signed}
 use Rattle.rounding.specs.Mode.{Way, near, under, over, modeOf, way}
 use Rattle.place.specs.declared.Location.{Location}
@@ -48,33 +48,24 @@ not-near (suc (suc zero)) false h e = let z : _≡_ {A = ℕ} 0 1 = cc in omega 
 not-near (suc (suc (suc m))) true h e = let z : _≡_ {A = ℕ} 0 1 = cc in omega arith
 not-near (suc (suc (suc m))) false h e = let z : _≡_ {A = ℕ} 0 1 = cc in omega arith
 
-module _ (w : Way) (at : Location) (odd : Bool) (other : w ≡ near → ⊥) where
-  pub lower-up : at ≡ Lower → goesOut w ≡ goesUp w at odd
-  unfolding goesUp goesOut
-  lower-up e = rw e (go w other)
-    where
-      go : (w : Way) → (w ≡ near → ⊥) → goesOut w ≡ goesUp w Lower odd
-      go near h = absurd (h refl)
-      go under h = refl
-      go over h = refl
+-- what is not exact
+abbrev pub Off : Location → Type 0
+Off Exact = ⊥
+Off Lower = Unit {0}
+Off Tie = Unit {0}
+Off Upper = Unit {0}
 
-  pub tie-up : at ≡ Tie → goesOut w ≡ goesUp w at odd
-  unfolding goesUp goesOut
-  tie-up e = rw e (go w other)
-    where
-      go : (w : Way) → (w ≡ near → ⊥) → goesOut w ≡ goesUp w Tie odd
-      go near h = absurd (h refl)
-      go under h = refl
-      go over h = refl
-
-  pub upper-up : at ≡ Upper → goesOut w ≡ goesUp w at odd
-  unfolding goesUp goesOut
-  upper-up e = rw e (go w other)
-    where
-      go : (w : Way) → (w ≡ near → ⊥) → goesOut w ≡ goesUp w Upper odd
-      go near h = absurd (h refl)
-      go under h = refl
-      go over h = refl
+pub off-up : (w : Way) (at : Location) (odd : Bool) → (w ≡ near → ⊥) → Off at → goesOut w ≡ goesUp w at odd
+unfolding goesUp goesOut
+off-up near at odd h o = absurd (h refl)
+off-up under Exact odd h o = absurd o
+off-up under Lower odd h o = refl
+off-up under Tie odd h o = refl
+off-up under Upper odd h o = refl
+off-up over Exact odd h o = absurd o
+off-up over Lower odd h o = refl
+off-up over Tie odd h o = refl
+off-up over Upper odd h o = refl
 
 -- ---- the ternary value
 
@@ -83,14 +74,9 @@ unfolding ternaryOf signed side
 exact-ternary true at up e = rw e refl
 exact-ternary false at up e = rw e refl
 
-pub lower-side : (at : Location) (up : Bool) → at ≡ Lower → inexact up ≡ side at up
+pub off-side : (at : Location) (up : Bool) → Off at → inexact up ≡ side at up
 unfolding side
-lower-side at up e = rw e refl
-
-pub tie-side : (at : Location) (up : Bool) → at ≡ Tie → inexact up ≡ side at up
-unfolding side
-tie-side at up e = rw e refl
-
-pub upper-side : (at : Location) (up : Bool) → at ≡ Upper → inexact up ≡ side at up
-unfolding side
-upper-side at up e = rw e refl
+off-side Exact up o = absurd o
+off-side Lower up o = refl
+off-side Tie up o = refl
+off-side Upper up o = refl

@@ -1,16 +1,15 @@
 -- Values of a target that moves by bits, limb by limb. Laws of lists stand over any base B. Assumes nothing.
 use mathlib.Core.Path.{_≡_, refl, sym, ap, _∙_, subst}
 use mathlib.Core.List.{List}
-use Prim.Native.Nat.{ℕ, zero, suc, _+_, _-_, _*_, _/_, _%_, _^_, _≤_, _<_}
-use native.Mathlib.Nat.{add-mul-div-left, add-mul-mod-self-left, mod-eq-of-lt, mod-lt, div-add-mod', mul-assoc, mul-comm, pow-zero, pow-succ', div-mul-le-self, lt-of-le-of-lt, mul-le-mul-left, mul-mod-left, add-zero}
+use Prim.Native.Nat.{ℕ, suc, _+_, _-_, _*_, _/_, _%_, _^_, _≤_, _<_}
+use native.Mathlib.Nat.{add-mul-div-left, add-mul-mod-self-left, mod-eq-of-lt, mod-lt, div-add-mod', mul-assoc, mul-comm, pow-zero, pow-succ', div-mul-le-self, lt-of-le-of-lt, mul-le-mul-left, mul-mod-left, add-zero, add-comm, le-of-lt, lt-of-lt-of-le, mul-suc}
 use native.Mathlib.Numerals.{add-one}
-use native.Mathlib.Decide.{ℕ-discrete, decLe}
 use native.Mathlib.Omega.{arith}
 use lib.Bits.{bitOr, or-shifted, or-shifted-r, or-lt}
-use lib.ListN.{length, getD, take, drop, set, length-set, List·getD-eq-default}
-use lib.Pow.{pow-pos, pow-add, mod-pow-add, shl-shr, shr-lt}
-use lib.Seq.{drop-length, take-set-le, drop-set-lt, getD-set-same, getD-set-other, set-out}
-use Rattle.limb.specs.Value.{valueIn, Below}
+use lib.ListN.{length, getD, take, drop, set}
+use lib.Pow.{pow-pos, pow-mono, pow-add, mod-pow-add, shl-shr, shr-lt}
+use lib.Seq.{drop-length, take-set-le, drop-set-lt, getD-set-same, getD-set-other}
+use Rattle.limb.specs.Value.{valueIn}
 use Rattle.limb.proofs.Value.{value-nil, value-take, value-drop, value-set}
 
 -- ---- one limb
@@ -42,7 +41,7 @@ module _ (limb up k : ℕ) (some : 0 < k) (less : k < 64) (lt : limb < 2 ^ 64) (
   raised-lt = or-lt 64 (limb * 2 ^ k % 2 ^ 64) up (mod-lt _ (pow-pos 64)) (lt-of-lt few)
     where
       lt-of-lt : up < 2 ^ k → up < 2 ^ 64
-      lt-of-lt h = native.Mathlib.Nat.lt-of-lt-of-le h (lib.Pow.pow-mono (native.Mathlib.Nat.le-of-lt less))
+      lt-of-lt h = lt-of-lt-of-le h (pow-mono (le-of-lt less))
 
   pub top-few : limb / 2 ^ (64 - k) < 2 ^ k
   top-few = let e : 64 ≡ k + (64 - k) = omega arith in shr-lt k (64 - k) (subst (λ (n : ℕ). limb < 2 ^ n) e lt)
@@ -68,7 +67,7 @@ module _ (B : ℕ) where
   pub turn-lt : (t : List ℕ) (i n : ℕ) → i < length t → n < B → valueIn B (take i t) < B ^ i → valueIn B (take (i + 1) (set t i n)) < B ^ (i + 1)
   turn-lt t i n h l inv =
       rw (add-one i, value-take B i (set t i n), take-set-le i t i n (omega arith), getD-set-same t i n 0 h, pow-succ' B i)
-      (let k = mul-le-mul-left (B ^ i) l in omega (arith, mul-comm B (B ^ i), native.Mathlib.Nat.mul-suc (B ^ i) n))
+      (let k = mul-le-mul-left (B ^ i) l in omega (arith, mul-comm B (B ^ i), mul-suc (B ^ i) n))
 
   -- one turn downwards
   pub turn-down : (t o : List ℕ) (i down n low P : ℕ) → i < length t → 2 * n + low ≡ getD o i 0 + B * down
@@ -118,7 +117,7 @@ half-of : (v d n : ℕ) → d ≤ 1 → v * 2 + d ≡ n → v ≡ n / 2
 half-of v d n h e = omega arith
 
 pub halved : (B : ℕ) (t o : List ℕ) (d L : ℕ) → d ≤ 1 → valueIn B (drop 0 t) * 2 + d ≡ valueIn B (drop 0 o) + B ^ (L - 0) → valueIn B t ≡ (B ^ L + valueIn B o) / 2
-halved B t o d L h e = let s : L - 0 ≡ L = omega arith in half-of (valueIn B t) d (B ^ L + valueIn B o) h ((rw s at e) ∙ native.Mathlib.Nat.add-comm _ _)
+halved B t o d L h e = let s : L - 0 ≡ L = omega arith in half-of (valueIn B t) d (B ^ L + valueIn B o) h ((rw s at e) ∙ add-comm _ _)
 
 -- ---- the lowest limb
 

@@ -1,10 +1,10 @@
 -- The answer from the location: what is selected, its digits and its exponent. Assumes nothing.
-use mathlib.Core.Path.{_≡_, refl, sym, ap, _∙_, subst}
-use mathlib.Core.Logic.{_⊎_, inl, inr}
-use mathlib.Core.Bool.{Bool, true, false}
+use mathlib.Core.Path.{_≡_, sym, ap, _∙_}
+use mathlib.Core.Logic.{inl, inr}
+use mathlib.Core.Bool.{Bool}
 use mathlib.Core.List.{List}
 use Prim.Native.Nat.{ℕ, zero, suc, _+_, _-_, _*_, _/_, _%_, _^_, _≤_, _<_, compare, Ordering}
-use native.Mathlib.Nat.{le-refl, le-trans, le-of-eq, le-of-lt, lt-of-lt-of-le, le-antisymm, mul-le-mul-right, mul-lt-mul-of-pos-right, le-div-iff-mul-le, div-add-mod', mod-lt, pow-succ'}
+use native.Mathlib.Nat.{le-refl, le-trans, le-of-eq, lt-of-lt-of-le, le-antisymm, mul-le-mul-right, mul-lt-mul-of-pos-right, le-div-iff-mul-le, div-add-mod', mod-lt, pow-succ'}
 use native.Mathlib.Omega.{arith}
 use lib.Dec.{eqb}
 use lib.IntN.{ℤ}
@@ -16,17 +16,16 @@ use Rattle.limb.proofs.Carry.{bit-le}
 use Rattle.number.specs.Limits.{leastExponent, mostExponent, limbsFor}
 use Rattle.number.specs.Limbs.{limbsOf}
 use Rattle.number.specs.Operand.{spareBits}
-use Rattle.rounding.specs.Mode.{Way, modeOf, way}
+use Rattle.rounding.specs.Mode.{Way}
 use Rattle.rounding.specs.Select.{unit, chosen, onGrid}
-use Rattle.rounding.specs.Answer.{Answer, number, tooLarge, tooSmall, ranged, digits, signed, rounded}
+use Rattle.rounding.specs.Answer.{Answer, number, ranged, digits, signed, rounded}
 use Rattle.rounding.proofs.Order.{le-or-lt}
 use Rattle.rounding.proofs.Between.{is-large, is-small, is-in}
 use Rattle.rounding.proofs.Even.{size-is, digits-of}
-use Rattle.rounding.proofs.Grid.{quotient-ge, quotient-le}
 use Rattle.place.specs.declared.Location.{Location}
 use Rattle.place.specs.declared.Placed.{Placed}
 use Rattle.place.specs.Location.{locationOf, goesUp, side}
-use Rattle.place.specs.Placed.{ternaryOf, runAnswer, placedOf, limbsAfter}
+use Rattle.place.specs.Placed.{ternaryOf, placedOf, limbsAfter}
 use Rattle.place.specs.Rounded.{refusedBy}
 use Rattle.place.specs.Walk.{isFull, asDigits, Settled}
 use Rattle.place.proofs.Locate.{selected-at, side-at}
@@ -34,15 +33,15 @@ use Rattle.place.proofs.Unit.{not-full, is-full, digits-kept, digits-fu
 
 -- ---- m units of 2 ^ k, with m at most 2 ^ p: its digits and its size
 
-module _ (p k m : ℕ) (lo : 2 ^ p ≤ m) (hi : m ≤ 2 ^ suc p) where
-  size-of : (p k m : ℕ) → 2 ^ p ≤ m → m < 2 ^ suc p → size (m * 2 ^ k) ≡ suc (p + k)
-  size-of p k m lo lt =
-      size-is (m * 2 ^ k) (p + k) (le-trans (le-of-eq (pow-add 2 p k)) (mul-le-mul-right (2 ^ k) lo))
-      (lt-of-lt-of-le (mul-lt-mul-of-pos-right lt (pow-pos k)) (le-of-eq (sym (pow-add 2 (suc p) k) ∙ ap (λ (n : ℕ). 2 ^ n) (shift p k))))
-    where
-      shift : (p k : ℕ) → suc p + k ≡ suc (p + k)
-      shift p k = omega arith
+size-of : (p k m : ℕ) → 2 ^ p ≤ m → m < 2 ^ suc p → size (m * 2 ^ k) ≡ suc (p + k)
+size-of p k m lo lt =
+    size-is (m * 2 ^ k) (p + k) (le-trans (le-of-eq (pow-add 2 p k)) (mul-le-mul-right (2 ^ k) lo))
+    (lt-of-lt-of-le (mul-lt-mul-of-pos-right lt (pow-pos k)) (le-of-eq (sym (pow-add 2 (suc p) k) ∙ ap (λ (n : ℕ). 2 ^ n) (shift p k))))
+  where
+    shift : (p k : ℕ) → suc p + k ≡ suc (p + k)
+    shift p k = omega arith
 
+module _ (p k m : ℕ) (lo : 2 ^ p ≤ m) (hi : m ≤ 2 ^ suc p) where
   -- 2 ^ (p + 1) units of 2 ^ k are 2 ^ p units of 2 ^ (k + 1)
   one-up : m ≡ 2 ^ suc p → m * 2 ^ k ≡ 2 ^ p * 2 ^ suc k
   one-up e = ap (λ (n : ℕ). n * 2 ^ k) e ∙ sym (pow-add 2 (suc p) k) ∙ ap (λ (n : ℕ). 2 ^ n) (shift p k) ∙ pow-add 2 p (suc k)

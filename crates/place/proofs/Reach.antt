@@ -2,8 +2,8 @@
 use mathlib.Core.Path.{_≡_, refl, sym, ap, _∙_, subst}
 use mathlib.Core.Bool.{Bool, true, false}
 use mathlib.Core.List.{List, []}
-use Prim.Native.Nat.{ℕ, zero, suc, _+_, _-_, _*_, _/_, _%_, _^_, _≤_, _<_}
-use native.Mathlib.Nat.{le-trans, le-of-eq, lt-of-lt-of-le, lt-of-le-of-lt, mul-le-mul-left, mul-le-mul-right, le-of-mul-le-mul-right, lt-of-mul-lt-mul-right, mod-eq-of-lt, mul-add-div-right, mul-assoc, le-of-lt}
+use Prim.Native.Nat.{ℕ, suc, _+_, _-_, _*_, _/_, _%_, _^_, _≤_, _<_}
+use native.Mathlib.Nat.{le-trans, le-of-eq, lt-of-lt-of-le, mul-le-mul-left, mul-le-mul-right, le-of-mul-le-mul-right, lt-of-mul-lt-mul-right, mod-eq-of-lt, mul-add-div-right, mul-assoc, add-mul-mod-self-left, pow-suc}
 use native.Mathlib.Omega.{arith}
 use lib.ListN.{length, getD, take, drop, drop-of-length-le}
 use lib.Pow.{pow-pos, pow-add, shr-lt, shr-shr, high}
@@ -87,7 +87,7 @@ module _ (b : Bool) (t : List ℕ) (z : ℕ) (h : Below (2 ^ 64) t) (some : 0 < 
       let under : D ≤ 2 * x = le-of-mul-le-mul-right (twice x (2 ^ z) (D * 2 ^ z) (sym parts) lo) (pow-pos z) in
       let w : length t ≡ suc (length t - 1) = omega arith in
       let p : 2 ^ (64 * length t + (64 - z)) ≡ P * 2 ^ 64 * D =
-      pow-add 2 (64 * length t) (64 - z) ∙ ap (λ (m : ℕ). m * D) (sym (base-pow (length t)) ∙ ap (λ (n : ℕ). (2 ^ 64) ^ n) w ∙ native.Mathlib.Nat.pow-suc (2 ^ 64) (length t - 1)) in
+      pow-add 2 (64 * length t) (64 - z) ∙ ap (λ (m : ℕ). m * D) (sym (base-pow (length t)) ∙ ap (λ (n : ℕ). (2 ^ 64) ^ n) w ∙ pow-suc (2 ^ 64) (length t - 1)) in
       let is = top-apart (2 ^ 64) t some in
       let lt = value-take-lt (2 ^ 64) (length t - 1) t h in
       record {
@@ -168,7 +168,7 @@ rest-low b t guard k some le =
     let s : 128 ≡ k + (128 - k) = omega arith in
     let z : headed b t * 2 ^ 64 + guard ≡ x * 2 ^ 64 + guard + 2 ^ k * (2 ^ (128 - k) * y) =
     ap (λ (m : ℕ). m * 2 ^ 64 + guard) e ∙ spread (2 ^ 64) x y ∙ ap (λ (m : ℕ). x * 2 ^ 64 + guard + m * y) (ap (λ (n : ℕ). 2 ^ n) s ∙ pow-add 2 k (128 - k)) ∙ ap (λ (m : ℕ). x * 2 ^ 64 + guard + m) (mul-assoc (2 ^ k) (2 ^ (128 - k)) y) in
-    sym (ap (λ (m : ℕ). m % 2 ^ k) z ∙ native.Mathlib.Nat.add-mul-mod-self-left (x * 2 ^ 64 + guard) (2 ^ k) (2 ^ (128 - k) * y))
+    sym (ap (λ (m : ℕ). m % 2 ^ k) z ∙ add-mul-mod-self-left (x * 2 ^ 64 + guard) (2 ^ k) (2 ^ (128 - k) * y))
   where
     apart : (B c X Y v x r : ℕ) → X ≡ B * Y → v ≡ x + B * r → c * X + v ≡ x + B * (c * Y + r)
     apart B c X Y v x r e f = omega (arith, ap (λ (m : ℕ). c * m) e)

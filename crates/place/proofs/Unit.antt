@@ -1,9 +1,9 @@
 -- Values of a target to which the last unit is added. Assumes nothing.
 use mathlib.Core.Path.{_≡_, refl, sym, ap, _∙_, subst}
-use mathlib.Core.Bool.{Bool, true, false, not}
+use mathlib.Core.Bool.{true, false, not}
 use mathlib.Core.List.{List}
 use Prim.Native.Nat.{ℕ, zero, suc, _+_, _-_, _*_, _/_, _%_, _^_, _≤_, _<_}
-use native.Mathlib.Nat.{pow-zero, pow-succ', le-of-lt, lt-of-lt-of-le, lt-of-le-of-lt, le-of-eq, mul-le-mul-right, lt-of-mul-lt-mul-right, div-add-mod', add-zero}
+use native.Mathlib.Nat.{pow-zero, pow-succ', lt-of-lt-of-le, le-of-eq, mul-le-mul-right, lt-of-mul-lt-mul-right, div-add-mod', add-zero}
 use native.Mathlib.Numerals.{add-one}
 use native.Mathlib.Omega.{arith}
 use lib.Dec.{eqb}

@@ -1,6 +1,6 @@
 -- What rounding a run of limbs answers and leaves. Definitions only.
 use Prim.Native.Nat.{ℕ, _+_, _-_, _*_, _^_, Ordering, Ordering·lt, Ordering·eq, Ordering·gt}
-use mathlib.Core.Bool.{Bool, true, false, cond, _&&_, _||_, not}
+use mathlib.Core.Bool.{Bool, cond, _&&_, _||_}
 use mathlib.Core.List.{List}
 use lib.Dec.{ltb, leb, eqb}
 use lib.IntN.{ℤ, pos, negsuc}
@@ -10,7 +10,7 @@ use Rattle.limb.specs.Carry.{bit}
 use Rattle.number.specs.Limits.{leastPrecision, mostPrecision, mostExponent, limbsFor}
 use Rattle.number.specs.Limbs.{limbsOf}
 use Rattle.number.specs.Operand.{spareBits}
-use Rattle.rounding.specs.Mode.{Mode, modeOf, way}
+use Rattle.rounding.specs.Mode.{modeOf, way}
 use Rattle.rounding.specs.Answer.{Answer, zeroOf, number, tooLarge, tooSmall, rounded}
 use Rattle.place.specs.declared.Placed.{Placed}
 

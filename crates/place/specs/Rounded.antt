@@ -4,7 +4,6 @@ use mathlib.Core.Bool.{Bool, cond}
 use mathlib.Core.List.{List}
 use lib.Dec.{eqb}
 use lib.IntN.{pos}
-use Rattle.rounding.specs.Answer.{Answer}
 use Rattle.place.specs.declared.Placed.{Placed}
 use Rattle.place.specs.Placed.{runNumber, runAnswer, runRule, placedOf, limbsAfter}
 

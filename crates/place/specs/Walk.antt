@@ -2,7 +2,7 @@
 use mathlib.Core.Path.{_≡_}
 use mathlib.Core.Bool.{Bool, true, false, cond}
 use mathlib.Core.List.{List}
-use Prim.Native.Nat.{ℕ, _+_, _-_, _*_, _/_, _^_, _≤_, _<_}
+use Prim.Native.Nat.{ℕ, _+_, _-_, _*_, _^_, _≤_, _<_}
 use lib.Dec.{eqb}
 use lib.IntN.{ℤ}
 use lib.ListN.{length, replicate}
@@ -20,13 +20,13 @@ headed carry target = bit carry * 2 ^ (64 * length target) + valueOf target
 unfoldable pub whole : Bool → List ℕ → ℕ → ℕ
 whole carry target guard = headed carry target * 2 ^ 64 + guard
 
--- the first digit of the run stands d digits above as many digits as the target has
-pub record Reaches (carry : Bool) (target : List ℕ) (d : ℕ) : Type 0 where
-  pub positive : 0 < d
-  pub carried : carry ≡ true → d ≡ 65
-  pub plain : carry ≡ false → d ≤ 64
-  pub first : 2 ^ (64 * length target + d) ≤ 2 * (headed carry target * 2 ^ 64)
-  pub top : (headed carry target + 1) * 2 ^ 64 ≤ 2 ^ (64 * length target + d)
+-- the run has as many digits as the target and `offset` more
+pub record Reaches (carry : Bool) (target : List ℕ) (offset : ℕ) : Type 0 where
+  pub positive : 0 < offset
+  pub carried : carry ≡ true → offset ≡ 65
+  pub plain : carry ≡ false → offset ≤ 64
+  pub first : 2 ^ (64 * length target + offset) ≤ 2 * (headed carry target * 2 ^ 64)
+  pub top : (headed carry target + 1) * 2 ^ 64 ≤ 2 ^ (64 * length target + offset)
 
 -- so many limbs, worth n
 pub record Holds (room n : ℕ) (limbs : List ℕ) : Type 0 where
@@ -38,7 +38,7 @@ pub record UnitAdded (spare : ℕ) (before : List ℕ) (out : Bool) (after : Lis
   pub size : length after ≡ length before
   pub value : valueOf after + (2 ^ 64) ^ length before * bit out ≡ valueOf before + 2 ^ spare
 
--- m, at most 2 ^ p, as p digits: 2 ^ p is a 1 with zeros below it, one exponent up
+-- m, at most 2 ^ p, as p digits: "Rounding up 0.11..1" gives a 1 with zeros below it, one exponent up
 unfoldable pub isFull : ℕ → ℕ → Bool
 isFull p m = eqb m (2 ^ p)
 

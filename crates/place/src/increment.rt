@@ -8,6 +8,9 @@ ghost use Rattle.limb.specs.Value.{valueOf};
 ghost use Rattle.place.specs.Walk.{UnitAdded, RoundedUp};
 use crate::rest::power;
 
+// 2^63: the first digit of a limb.
+const FIRST_DIGIT: u64 = 9223372036854775808;
+
 // Whether the last kept digit is 1.
 pub fn is_odd(target: &[u64], spare: u64) -> bool
     requires { ⌜ (0 < length (now target)) × (spare < 64) ⌝ }
@@ -47,6 +50,6 @@ pub fn round_up(target: &mut [u64], spare: u64, up: bool) -> bool
         return false;
     }
     let last = target.len() - 1;
-    target[last] = 9223372036854775808;
+    target[last] = FIRST_DIGIT;
     true
 }

@@ -1,11 +1,11 @@
 // The rounding step: a run of limbs is truncated to p digits in one walk over the target, and the last unit is added in a second.
 //
 //     carry | target, top limb first | guard | more
-//             [ p digits  | spare ]
-//             [      | digits below the last kept one    ]
+//       1 b b b b b b b b b b b b b b b b b b            a carry: the target moves down by a bit
+//           0 0 1 b b b b b b b b b b b b b b            none: it moves up, as far as there are zeros
+//           [ p digits ][ digits below: offset + spare ]
 //
 ghost use mathlib.Core.Path.{_≡_};
-ghost use Prim.Native.Nat.{_+_, _*_, _<_};
 ghost use Rattle.place.specs.Placed.{runRule};
 ghost use Rattle.place.specs.Rounded.{roundedPlaced, roundedLimbs};
 
@@ -39,7 +39,7 @@ pub enum Location {
     Upper,
 }
 
-// A run that the rules let pass.
+// Rounds a run that the rules let pass.
 fn place(
     negative: bool,
     carry: bool,
@@ -55,18 +55,21 @@ fn place(
     ensures { λ r. ⌜ now (target .exit) ≡ roundedLimbs mode precision negative unit carry (now (target .entry)) guard more ⌝ }
 {
     let spare = 64 * (target.len() as u64) - precision;
-    let d = reach(carry, target);
-    let at = locate(target[0], guard, d + spare, more);
-    truncate(carry, target, guard, d, spare);
+    let offset = reach(carry, target);
+    let at = locate(target[0], guard, offset + spare, more);
+    truncate(carry, target, guard, offset, spare);
     let up = rounds_up(mode, negative, at, is_odd(target, spare));
     let over = round_up(target, spare, up);
     settle(
         target,
-        unit + precision + d + spare + (over as u64),
+        unit + precision + offset + spare + (over as u64),
         ternary(negative, at, up),
     )
 }
 
+// Rounds a run to `precision` digits: the target is left with them at its top, and the spare bits 0. The guard's last digit has the
+// counted weight `unit`, and `more` says that something lies below it. By rules 2 to 5 a run is refused and the target stays; by 6 and
+// 7 the selected exponent is out of range and the target is cleared.
 pub fn round_run(
     negative: bool,
     carry: bool,

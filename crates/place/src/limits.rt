@@ -14,6 +14,7 @@ const LEAST_EXPONENT: u64 = 1098437885953;
 
 const MOST_EXPONENT: u64 = 1100585369599;
 
+// A precision of document 01: 2 to 4,096.
 fn precision_fits(precision: u64) -> bool
     ensures { λ r. ⌜ r ≡ leb leastPrecision precision && leb precision mostPrecision ⌝ }
 {

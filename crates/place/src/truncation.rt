@@ -15,8 +15,8 @@ fn zeros_above(limb: u64) -> u64
     u64::leading_zeros(limb) as u64
 }
 
-// How many digits of the run lie below as many digits as the target has: the guard's 64 and one for the carry, or fewer by the
-// zeros at the top.
+// How many digits of the run are left below as many digits as the target has: the guard's 64 and one more for a carry, or fewer by
+// the zeros at the top.
 pub fn reach(carry: bool, target: &[u64]) -> u64
     requires { ⌜ (0 < length (now target)) × (carry ≡ false → 0 < getD (now target) (length (now target) - 1) 0) ⌝ }
     ensures { λ r. ⌜ Reaches carry (now (target .entry)) r ⌝ }
@@ -58,18 +58,18 @@ fn move_up(target: &mut [u64], guard: u64, k: u64)
 }
 
 // The digits of the run from its first on, as many as the target has.
-fn bring_up(carry: bool, target: &mut [u64], guard: u64, d: u64)
-    requires { ⌜ Reaches carry (now target) d ⌝ }
-    ensures { λ r. ⌜ Holds (length (now (target .entry))) (whole carry (now (target .entry)) guard / 2 ^ d) (now (target .exit)) ⌝ }
+fn bring_up(carry: bool, target: &mut [u64], guard: u64, offset: u64)
+    requires { ⌜ Reaches carry (now target) offset ⌝ }
+    ensures { λ r. ⌜ Holds (length (now (target .entry))) (whole carry (now (target .entry)) guard / 2 ^ offset) (now (target .exit)) ⌝ }
 {
     if carry {
         move_down(target);
         return;
     }
-    if d == 64 {
+    if offset == 64 {
         return;
     }
-    move_up(target, guard, 64 - d);
+    move_up(target, guard, 64 - offset);
 }
 
 // The lowest bits of the lowest limb become 0.
@@ -81,10 +81,10 @@ fn clear_spare(target: &mut [u64], spare: u64)
 }
 
 // The run less its digits below the last kept one.
-pub fn truncate(carry: bool, target: &mut [u64], guard: u64, d: u64, spare: u64)
-    requires { ⌜ Reaches carry (now target) d × (0 < length (now target)) × (spare < 64) ⌝ }
-    ensures { λ r. ⌜ Holds (length (now (target .entry))) (whole carry (now (target .entry)) guard / 2 ^ (d + spare) * 2 ^ spare) (now (target .exit)) ⌝ }
+pub fn truncate(carry: bool, target: &mut [u64], guard: u64, offset: u64, spare: u64)
+    requires { ⌜ Reaches carry (now target) offset × (0 < length (now target)) × (spare < 64) ⌝ }
+    ensures { λ r. ⌜ Holds (length (now (target .entry))) (whole carry (now (target .entry)) guard / 2 ^ (offset + spare) * 2 ^ spare) (now (target .exit)) ⌝ }
 {
-    bring_up(carry, target, guard, d);
+    bring_up(carry, target, guard, offset);
     clear_spare(target, spare);
 }

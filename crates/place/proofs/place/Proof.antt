@@ -1,7 +1,7 @@
 -- `place::place` is right since the location is that of what truncation drops, the last unit is added where the location asks for it, and
 -- the exponent counts the digits of the run and a digit more where all were ones. Assumes nothing.
 use mathlib.Core.Path.{_≡_, refl, sym, ap, _∙_}
-use Prim.Native.Nat.{ℕ, _+_, _-_, _*_, _/_, _%_, _^_, _≤_, _<_}
+use Prim.Native.Nat.{ℕ, _-_, _*_, _%_}
 use native.Mathlib.Nat.{lt-of-lt-of-le, le-of-eq, mul-mod-left}
 use native.Mathlib.Omega.{arith}
 use lib.ListN.{length}

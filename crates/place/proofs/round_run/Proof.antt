@@ -1,5 +1,5 @@
 -- `place::round_run` is right since the rules decide whether the run is rounded, and `place` rounds it. Assumes nothing.
-use mathlib.Core.Path.{_≡_, sym}
+use mathlib.Core.Path.{sym}
 use Rattle.place.specs.Rounded.{refusedBy}
 use Rattle.place.proofs.Answer.{placed-refused, limbs-refused}
 use borrow.Author.Needs.{needs}

@@ -1,10 +1,10 @@
 -- `place::increment::add_unit` is right since after i turns the target, with what is still to be added above its lowest i limbs, is worth
 -- what it was and the unit; where nothing is left to add, the walk is done. Assumes nothing.
-use mathlib.Core.Path.{_≡_, ap, _∙_}
+use mathlib.Core.Path.{_≡_}
 use mathlib.Core.List.{List}
 use Prim.Native.Nat.{ℕ, _+_, _-_, _*_, _^_, _≤_, _<_}
 use native.Mathlib.Omega.{arith}
-use lib.ListN.{length, getD, set, length-set}
+use lib.ListN.{length, length-set}
 use Rattle.limb.specs.Carry.{bit}
 use Rattle.limb.specs.Value.{valueIn}
 use Rattle.limb.proofs.Carry.{bit-byte, byte-le}

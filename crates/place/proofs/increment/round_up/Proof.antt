@@ -1,7 +1,5 @@
 -- `place::increment::round_up` is right since a carry leaves the top only where all digits were ones, and then all are 0 after it.
 -- Assumes nothing.
-use mathlib.Core.Path.{_≡_}
-use mathlib.Core.Bool.{true, false}
 use borrow.Author.Tests.{not-true, not-false}
 use Rattle.place.proofs.Unit.{stays, fits, overflows}
 use borrow.Author.Needs.{needs}

@@ -1,7 +1,6 @@
 -- `place::limits::precision_fits` is right since its numbers are those of the limits. Assumes nothing.
 use mathlib.Core.Path.{refl}
 use Rattle.number.specs.Limits.{leastPrecision, mostPrecision}
-use borrow.Author.Needs.{needs}
 use Rattle.place.proofs.limits.precision_fits.Statement.{statement}
 use Rattle.place.proofs.limits.precision_fits.Tie as tie
 

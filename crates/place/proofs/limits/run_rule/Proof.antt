@@ -1,6 +1,5 @@
 -- `place::limits::run_rule` is right since it makes the tests in the order of the rules. Assumes nothing.
-use mathlib.Core.Path.{_≡_, sym, ap, _∙_}
-use mathlib.Core.Bool.{Bool, true, false}
+use mathlib.Core.Path.{sym, _∙_}
 use native.Mathlib.Omega.{arith}
 use borrow.Author.Tests.{not-true, not-false}
 use Rattle.place.proofs.Rules.{precision-most, count-is, counted, rule-two, rule-three, rule-four, rule-five, rule-none}

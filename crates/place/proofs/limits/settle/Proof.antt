@@ -1,10 +1,9 @@
 -- `place::limits::settle` is right since its numbers are those of the limits, and the three cases shut each other out. Assumes nothing.
-use mathlib.Core.Path.{_≡_, refl, ap}
+use mathlib.Core.Path.{refl, ap}
 use native.Mathlib.Omega.{arith}
 use lib.IntN.{ℤ}
 use mir.Facts.{toZ-ofZ}
 use Rattle.number.specs.Limits.{leastExponent, mostExponent, bias}
-use Rattle.place.specs.declared.Placed.{Placed}
 use Rattle.place.specs.Rounded.{refusedBy}
 use borrow.Author.Needs.{needs}
 use Rattle.place.proofs.limits.settle.Statement.{statement}

@@ -1,7 +1,6 @@
 -- `place::rest::goes_out` is right since up goes away from zero for what is positive, down for what is negative, and the others never.
 -- Assumes nothing.
 use Rattle.place.proofs.Modes.{inward, upward-out, downward-out}
-use borrow.Author.Needs.{needs}
 use Rattle.place.proofs.rest.goes_out.Statement.{statement}
 use Rattle.place.proofs.rest.goes_out.Tie as tie
 

@@ -4,7 +4,6 @@ use mathlib.Core.Path.{refl}
 use Rattle.rounding.specs.Answer.{signed}
 use Rattle.place.specs.Placed.{ternaryOf}
 use Rattle.place.specs.Location.{inexact}
-use borrow.Author.Needs.{needs}
 use Rattle.place.proofs.rest.leaning.Statement.{statement}
 use Rattle.place.proofs.rest.leaning.Tie as tie
 

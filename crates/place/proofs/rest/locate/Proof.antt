@@ -1,6 +1,6 @@
 -- `place::rest::locate` is right since the limb above the guard has no part in the digits of one limb, and the guard below it counts only as
 -- something. Assumes nothing.
-use mathlib.Core.Path.{_≡_, ap, _∙_}
+use mathlib.Core.Path.{ap, _∙_}
 use Prim.Native.Nat.{ℕ, _+_, _*_, _^_}
 use Rattle.limb.specs.Carry.{bit}
 use Rattle.place.specs.Location.{locationOf}

@@ -4,7 +4,7 @@ use mathlib.Core.Path.{_∙_}
 use Rattle.rounding.specs.Mode.{modeOf, way}
 use Rattle.place.specs.declared.Location.the-variants.{Exact, Lower, Tie, Upper}
 use Rattle.place.specs.Location.{goesUp}
-use Rattle.place.proofs.Modes.{nearest-up, exact-up, not-near, lower-up, tie-up, upper-up}
+use Rattle.place.proofs.Modes.{nearest-up, exact-up, not-near, off-up}
 use borrow.Author.Needs.{needs}
 use Rattle.place.proofs.rest.rounds_up.Statement.{statement}
 use Rattle.place.proofs.rest.rounds_up.Tie as tie
@@ -75,19 +75,19 @@ returns-6 : tie.Need-returns-6
 returns-6 c =
     let g = c .before .before .before .before .args in
     c .goes-out .ensures
-    ∙ lower-up (way (modeOf (g .mode)) (g .negative)) (g .at) (g .odd) (not-near (g .mode) (g .negative) (c .before .before .before .if1 .left)) (c .before .enum-told6 .given .1)
+    ∙ off-up (way (modeOf (g .mode)) (g .negative)) (g .at) (g .odd) (not-near (g .mode) (g .negative) (c .before .before .before .if1 .left)) (rw (c .before .enum-told6 .given .1) tt)
 
 returns-7 : tie.Need-returns-7
 returns-7 c =
     let g = c .before .before .before .before .args in
     c .goes-out2 .ensures
-    ∙ tie-up (way (modeOf (g .mode)) (g .negative)) (g .at) (g .odd) (not-near (g .mode) (g .negative) (c .before .before .before .if1 .left)) (c .before .enum-told7 .given .1)
+    ∙ off-up (way (modeOf (g .mode)) (g .negative)) (g .at) (g .odd) (not-near (g .mode) (g .negative) (c .before .before .before .if1 .left)) (rw (c .before .enum-told7 .given .1) tt)
 
 returns-8 : tie.Need-returns-8
 returns-8 c =
     let g = c .before .before .before .before .args in
     c .goes-out3 .ensures
-    ∙ upper-up (way (modeOf (g .mode)) (g .negative)) (g .at) (g .odd) (not-near (g .mode) (g .negative) (c .before .before .before .if1 .left)) (c .before .enum-told8 .given .1)
+    ∙ off-up (way (modeOf (g .mode)) (g .negative)) (g .at) (g .odd) (not-near (g .mode) (g .negative) (c .before .before .before .if1 .left)) (rw (c .before .enum-told8 .given .1) tt)
 
 pub rounds-up-spec : {M : Type 1} → statement M
 rounds-up-spec =

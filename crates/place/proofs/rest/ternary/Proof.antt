@@ -5,7 +5,7 @@ use mir.Facts.{toZ-ofZ}
 use mir.Syntax.{w8}
 use Rattle.rounding.specs.Answer.{signed}
 use Rattle.place.specs.Placed.{ternaryOf}
-use Rattle.place.proofs.Modes.{exact-ternary, lower-side, tie-side, upper-side}
+use Rattle.place.proofs.Modes.{exact-ternary, off-side}
 use borrow.Author.Needs.{needs}
 use Rattle.place.proofs.rest.ternary.Statement.{statement}
 use Rattle.place.proofs.rest.ternary.Tie as tie
@@ -39,17 +39,17 @@ returns c =
 returns-2 : tie.Need-returns-2
 returns-2 c =
     let g = c .before .before .before .args in
-    toZ-ofZ {w = w8} (record { sfits = c .leaning .ok }) ∙ c .leaning .ensures ∙ ap (λ (o : Ordering). ternaryOf (signed (g .negative) o)) (lower-side (g .at) (g .up) (c .before .enum-told2 .given .1))
+    toZ-ofZ {w = w8} (record { sfits = c .leaning .ok }) ∙ c .leaning .ensures ∙ ap (λ (o : Ordering). ternaryOf (signed (g .negative) o)) (off-side (g .at) (g .up) (rw (c .before .enum-told2 .given .1) tt))
 
 returns-3 : tie.Need-returns-3
 returns-3 c =
     let g = c .before .before .before .args in
-    toZ-ofZ {w = w8} (record { sfits = c .leaning2 .ok }) ∙ c .leaning2 .ensures ∙ ap (λ (o : Ordering). ternaryOf (signed (g .negative) o)) (tie-side (g .at) (g .up) (c .before .enum-told3 .given .1))
+    toZ-ofZ {w = w8} (record { sfits = c .leaning2 .ok }) ∙ c .leaning2 .ensures ∙ ap (λ (o : Ordering). ternaryOf (signed (g .negative) o)) (off-side (g .at) (g .up) (rw (c .before .enum-told3 .given .1) tt))
 
 returns-4 : tie.Need-returns-4
 returns-4 c =
     let g = c .before .before .before .args in
-    toZ-ofZ {w = w8} (record { sfits = c .leaning3 .ok }) ∙ c .leaning3 .ensures ∙ ap (λ (o : Ordering). ternaryOf (signed (g .negative) o)) (upper-side (g .at) (g .up) (c .before .enum-told4 .given .1))
+    toZ-ofZ {w = w8} (record { sfits = c .leaning3 .ok }) ∙ c .leaning3 .ensures ∙ ap (λ (o : Ordering). ternaryOf (signed (g .negative) o)) (off-side (g .at) (g .up) (rw (c .before .enum-told4 .given .1) tt))
 
 pub ternary-spec : {M : Type 1} → statement M
 ternary-spec =

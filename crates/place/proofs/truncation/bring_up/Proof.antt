@@ -1,6 +1,6 @@
 -- `place::truncation::bring_up` is right since the digits from the first on are those of the target moved down by one bit, of the target
 -- as it stands, or of the target moved up with the guard's first digits below. Assumes nothing.
-use mathlib.Core.Path.{_≡_, refl, _∙_}
+use mathlib.Core.Path.{refl, _∙_}
 use native.Mathlib.Omega.{arith}
 use Rattle.place.proofs.Reach.{brought-down, brought-whole, brought-up}
 use borrow.Author.Needs.{needs}
@@ -19,13 +19,13 @@ returns c =
     let m = c .before .before .move-down .ensures in
     let h = c .before .before .before .before .if1 .taken in
     let g = s .args in
-    record { size = m .size; value = m .value ∙ brought-down (g .carry) (g .target .now) (g .guard) (g .d) (s .fits .guard .fits) h (s .pre .carried h) }
+    record { size = m .size; value = m .value ∙ brought-down (g .carry) (g .target .now) (g .guard) (g .offset) (s .fits .guard .fits) h (s .pre .carried h) }
 
 returns-2 : tie.Need-returns-2
 returns-2 c =
     let s = c .before .before .before in
     let g = s .args in
-    record { size = refl; value = brought-whole (g .carry) (g .target .now) (g .guard) (g .d) (s .fits .guard .fits) (c .before .if1 .left) (c .if2 .taken) }
+    record { size = refl; value = brought-whole (g .carry) (g .target .now) (g .guard) (g .offset) (s .fits .guard .fits) (c .before .if1 .left) (c .if2 .taken) }
 
 sub-move-up : tie.Need-sub-move-up
 sub-move-up c = c .before .before .before .before .pre .plain (c .before .before .if1 .left)
@@ -48,7 +48,7 @@ returns-3 c =
     let g = s .args in
     record {
       size = m .size;
-      value = m .value ∙ brought-up (g .carry) (g .target .now) (g .guard) (g .d) (s .fits .guard .fits) (s .pre) (c .before .before .before .before .before .if1 .left);
+      value = m .value ∙ brought-up (g .carry) (g .target .now) (g .guard) (g .offset) (s .fits .guard .fits) (s .pre) (c .before .before .before .before .before .if1 .left);
     }
 
 pub bring-up-spec : {M : Type 1} → statement M

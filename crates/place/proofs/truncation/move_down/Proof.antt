@@ -5,7 +5,7 @@ use mathlib.Core.List.{List}
 use Prim.Native.Nat.{ℕ, suc, _+_, _-_, _*_, _/_, _%_, _^_, _≤_, _<_}
 use native.Mathlib.Omega.{arith}
 use lib.Bits.{bitOr}
-use lib.ListN.{length, getD, drop, set, length-set}
+use lib.ListN.{length, getD, drop, length-set}
 use Rattle.limb.specs.Value.{valueIn}
 use Rattle.place.proofs.Moves.{limb-lowered, turn-down-at, none-down, below-stays, halved}
 use borrow.Author.Needs.{needs}

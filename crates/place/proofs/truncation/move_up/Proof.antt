@@ -1,12 +1,12 @@
 -- `place::truncation::move_up` is right since after i turns the lowest i limbs, with the bits that left them on top, are what they were
 -- moved up, with the guard's bits below. Assumes nothing.
-use mathlib.Core.Path.{_≡_, refl, sym, ap, _∙_}
+use mathlib.Core.Path.{_≡_, refl, ap, _∙_}
 use mathlib.Core.List.{List}
 use Prim.Native.Nat.{ℕ, _+_, _-_, _*_, _/_, _%_, _^_, _≤_, _<_}
 use native.Mathlib.Nat.{le-refl}
 use native.Mathlib.Omega.{arith}
 use lib.Bits.{bitOr}
-use lib.ListN.{length, getD, take, set, length-set}
+use lib.ListN.{length, getD, take, length-set}
 use lib.Pow.{pow-pos}
 use lib.Seq.{take-all}
 use Rattle.limb.specs.Value.{valueIn}

@@ -1,5 +1,5 @@
 -- `place::truncation::truncate` is right since the digits from the first on, less the spare ones, are the kept ones. Assumes nothing.
-use mathlib.Core.Path.{_≡_, ap, _∙_}
+use mathlib.Core.Path.{ap, _∙_}
 use Prim.Native.Nat.{ℕ, _*_, _/_, _^_}
 use lib.Pow.{shr-shr}
 use Rattle.place.specs.Walk.{whole}
@@ -25,7 +25,7 @@ returns c =
       size = z .size ∙ a .size;
       value =
           z .value ∙ ap (λ (m : ℕ). m / 2 ^ g .spare * 2 ^ g .spare) (a .value)
-          ∙ ap (λ (m : ℕ). m * 2 ^ g .spare) (shr-shr (whole (g .carry) (g .target .now) (g .guard)) (g .d) (g .spare));
+          ∙ ap (λ (m : ℕ). m * 2 ^ g .spare) (shr-shr (whole (g .carry) (g .target .now) (g .guard)) (g .offset) (g .spare));
     }
 
 pub truncate-spec : {M : Type 1} → statement M

@@ -6,7 +6,6 @@ use native.Mathlib.Nat.{le-trans, le-of-eq, suc-inj, add-suc, add-comm, mul-le-m
 use native.Mathlib.Omega.{arith}
 use lib.Count.{leadingZeros, leading-top}
 use lib.Pow.{pow-add, shl-lt}
-use borrow.Author.Needs.{needs}
 use Rattle.place.proofs.truncation.zeros_above.Statement.{statement}
 use Rattle.place.proofs.truncation.zeros_above.Tie as tie
 
