@@ -28,8 +28,8 @@ use Rattle.place.specs.Placed.{ternaryOf, runNumber, runAnswer, runRule,
 use Rattle.place.specs.Rounded.{refusedBy, roundedPlaced, roundedLimbs}
 use Rattle.place.specs.Walk.{headed, whole, Reaches, Holds, isFull, asDigits, RoundedUp, Settled}
 use Rattle.place.proofs.Placing.{rounded-at, settled}
-use Rattle.place.proofs.Reach.{reach-most, whole-lt, whole-ge, rest-low}
-use Rattle.place.proofs.Rules.{Passed, passed, some-limbs, digits-fit, spare-few, spare-is}
+use Rattle.place.proofs.Reach.{whole-lt, whole-ge, rest-low}
+use Rattle.place.proofs.Rules.{Passed, passed, spare-is}
 
 -- ---- refused, or not
 
@@ -72,10 +72,10 @@ module _ (mode p : ℕ) (negative : Bool) (unit : ℕ) (carry : Bool) (t : List 
   below = d + s
 
   few-below : below ≤ 128
-  few-below = omega (arith, reach-most carry t d reach, spare-few p carry t unit ok)
+  few-below = omega (arith, reach .most, ok .spare-few)
 
   digits : 64 * length t + d ≡ p + below
-  digits = omega (arith, digits-fit p carry t unit ok)
+  digits = omega (arith, ok .digits-fit)
 
   lo : 2 ^ (p + below) ≤ 2 * N
   lo = subst (λ (k : ℕ). 2 ^ k ≤ 2 * N) digits (whole-ge carry t guard d reach)
@@ -84,7 +84,7 @@ module _ (mode p : ℕ) (negative : Bool) (unit : ℕ) (carry : Bool) (t : List 
   hi = subst (λ (k : ℕ). N < 2 ^ k) digits (whole-lt carry t guard d lt reach)
 
   width : 64 * length t - s ≡ p
-  width = omega (arith, digits-fit p carry t unit ok)
+  width = omega (arith, ok .digits-fit)
 
   module _ (at : Location) (t1 : List ℕ) (odd up : Bool) (t2 : List ℕ) (over : Bool) (r : Placed) (t3 : List ℕ) (tern : ℤ) (e : ℕ)
       (at-is : at ≡ locationOf (2 * ((getD t 0 0 * 2 ^ 64 + guard) % 2 ^ below) + bit more) (2 ^ (below + 1)))
@@ -119,7 +119,7 @@ module _ (mode p : ℕ) (negative : Bool) (unit : ℕ) (carry : Bool) (t : List 
     unfolding runAnswer runNumber whole headed m
     answer-is =
         rounded-at (way (modeOf mode) negative) p below N more (lt-of-lt-of-le (omega arith) (ok .least)) lo hi at up m (unit - 1) e negative
-        (at-is ∙ ap (λ (n : ℕ). locationOf (2 * n + bit more) (2 ^ (below + 1))) (rest-low carry t guard below (some-limbs p carry t unit ok) few-below))
+        (at-is ∙ ap (λ (n : ℕ). locationOf (2 * n + bit more) (2 ^ (below + 1))) (rest-low carry t guard below (ok .some-limbs) few-below))
         (up-is ∙ ap (goesUp (way (modeOf mode) negative) at) (odd-is ∙ ap (λ (n : ℕ). eqb (n % 2) 1) q-is)) refl
         (e-is ∙ ap (λ (n : ℕ). unit + p + d + s + n) (sym (bit-byte over) ∙ ap bit over-is) ∙ count unit p d s (bit (isFull p m)) (ok .some))
       where
@@ -135,7 +135,7 @@ module _ (mode p : ℕ) (negative : Bool) (unit : ℕ) (carry : Bool) (t : List 
         let small : v < 2 ^ (64 * limbsFor p) =
         subst (λ (n : ℕ). n < 2 ^ (64 * limbsFor p)) value-is (subst (λ (n : ℕ). valueIn (2 ^ 64) t2 < n) (base-pow (length t2) ∙ ap (λ (n : ℕ). 2 ^ (64 * n)) size-is) (value-lt (2 ^ 64) t2 limbs)) in
         value-unique (2 ^ 64) t2 (limbsOf (limbsFor p) v) limbs (limbs-below (limbsFor p) v) (size-is ∙ sym (limbs-count (limbsFor p) v)) (value-is ∙ sym (limbs-value (limbsFor p) v small))
-        ∙ ap (λ (n : ℕ). limbsOf (limbsFor p) (asDigits p m * 2 ^ n)) (s-is ∙ sym (spare-is p carry t unit ok))
+        ∙ ap (λ (n : ℕ). limbsOf (limbsFor p) (asDigits p m * 2 ^ n)) (s-is ∙ sym (spare-is p (length t) (ok .count)))
 
     pub placed : (r ≡ roundedPlaced mode p negative unit carry t guard more) × (t3 ≡ roundedLimbs mode p negative unit carry t guard more)
     placed =

@@ -1,9 +1,9 @@
 -- How far a run reaches, and what its digits from the first on are. Assumes nothing.
-use mathlib.Core.Path.{_≡_, refl, sym, ap, _∙_, subst}
+use mathlib.Core.Path.{_≡_, sym, ap, _∙_, subst}
 use mathlib.Core.Bool.{Bool, true, false}
 use mathlib.Core.List.{List, []}
 use Prim.Native.Nat.{ℕ, suc, _+_, _-_, _*_, _/_, _%_, _^_, _≤_, _<_}
-use native.Mathlib.Nat.{le-trans, le-of-eq, lt-of-lt-of-le, mul-le-mul-left, mul-le-mul-right, le-of-mul-le-mul-right, lt-of-mul-lt-mul-right, mod-eq-of-lt, mul-add-div-right, mul-assoc, add-mul-mod-self-left, pow-suc}
+use native.Mathlib.Nat.{le-antisymm, le-trans, lt-of-lt-of-le, mul-le-mul-left, mul-le-mul-right, le-of-mul-le-mul-right, lt-of-mul-lt-mul-right, mod-eq-of-lt, mul-add-div-right, mul-assoc, add-mul-mod-self-left, pow-suc}
 use native.Mathlib.Omega.{arith}
 use lib.ListN.{length, getD, take, drop, drop-of-length-le}
 use lib.Pow.{pow-pos, pow-add, shr-lt, shr-shr, high}
@@ -39,7 +39,8 @@ reach-carried b t h e =
     let p : 2 ^ (64 * length t + 65) ≡ X * (2 * 2 ^ 64) = pow-add 2 (64 * length t) 65 in
     record {
       positive = omega arith;
-      carried = λ f. refl;
+      most = omega arith;
+      carried = λ f. omega arith;
       plain = λ f. absurd (true-false e f);
       first = rw (p, headed-true b t e) (carry-first X (valueIn (2 ^ 64) t) (2 ^ 64) lt);
       top = rw (p, headed-true b t e) (carry-top X (valueIn (2 ^ 64) t) (2 ^ 64) lt);
@@ -92,6 +93,7 @@ module _ (b : Bool) (t : List ℕ) (z : ℕ) (h : Below (2 ^ 64) t) (some : 0 < 
       let lt = value-take-lt (2 ^ 64) (length t - 1) t h in
       record {
         positive = omega arith;
+        most = omega arith;
         carried = λ f. absurd (true-false f e);
         plain = λ f. omega arith;
         first = rw (p, headed-false b t e) (plain-first P (2 ^ 64) D (valueIn (2 ^ 64) t) x (valueIn (2 ^ 64) (take (length t - 1) t)) is lt over under);
@@ -105,11 +107,11 @@ module _ (b : Bool) (t : List ℕ) (z : ℕ) (h : Below (2 ^ 64) t) (some : 0 < 
 
 module _ (b : Bool) (t : List ℕ) (guard d : ℕ) (lt : guard < 2 ^ 64) where
   -- one bit down
-  pub brought-down : b ≡ true → d ≡ 65 → ((2 ^ 64) ^ length t + valueIn (2 ^ 64) t) / 2 ≡ whole b t guard / 2 ^ d
+  pub brought-down : Reaches b t d → b ≡ true → ((2 ^ 64) ^ length t + valueIn (2 ^ 64) t) / 2 ≡ whole b t guard / 2 ^ d
   unfolding whole
-  brought-down e f =
+  brought-down r e =
       ap (λ (m : ℕ). (m + valueIn (2 ^ 64) t) / 2) (base-pow (length t)) ∙ ap (λ (m : ℕ). m / 2) (sym (high (headed b t) 64 lt ∙ headed-true b t e))
-      ∙ shr-shr (headed b t * 2 ^ 64 + guard) 64 1 ∙ ap (λ (n : ℕ). (headed b t * 2 ^ 64 + guard) / 2 ^ n) (sym f)
+      ∙ shr-shr (headed b t * 2 ^ 64 + guard) 64 1 ∙ ap (λ (n : ℕ). (headed b t * 2 ^ 64 + guard) / 2 ^ n) (le-antisymm (r .carried e) (r .most))
 
   -- as it stands
   pub brought-whole : b ≡ false → d ≡ 64 → valueIn (2 ^ 64) t ≡ whole b t guard / 2 ^ d
@@ -140,13 +142,6 @@ module _ (b : Bool) (t : List ℕ) (guard d : ℕ) (lt : guard < 2 ^ 64) where
       ap (λ (m : ℕ). (v * 2 ^ (64 - d) + guard / 2 ^ m) % (2 ^ 64) ^ length t) back ∙ mod-eq-of-lt small ∙ sym q
 
 -- ---- bounds
-
-pub reach-most : (b : Bool) (t : List ℕ) (d : ℕ) → Reaches b t d → d ≤ 65
-reach-most b t d r = go b refl
-  where
-    go : (a : Bool) → b ≡ a → d ≤ 65
-    go true e = le-of-eq (r .carried e)
-    go false e = le-trans (r .plain e) (omega arith)
 
 -- the first of the digits is 1
 pub whole-ge : (b : Bool) (t : List ℕ) (guard d : ℕ) → Reaches b t d → 2 ^ (64 * length t + d) ≤ 2 * whole b t guard

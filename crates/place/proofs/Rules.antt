@@ -23,14 +23,18 @@ pub precision-most : (p : ℕ) → (leb leastPrecision p && leb p mostPrecision)
 unfolding mostPrecision
 precision-most p e = leb-true p 4096 (and-right (leb leastPrecision p) (leb p 4096) e)
 
--- a run that the rules let pass
+-- a run that the rules let pass, whose limbs hold the digits and fewer than 64 spare bits
 pub record Passed (p : ℕ) (carry : Bool) (target : List ℕ) (unit : ℕ) : Type 0 where
   pub least : 2 ≤ p
   pub most : p ≤ 4096
   pub count : length target ≡ limbsFor p
   pub some : 0 < unit
-  pub sight : unit ≤ 2 * mostExponent
+  pub small : unit ≤ 2201170739198
   pub first : carry ≡ false → 0 < getD target (length target - 1) 0
+  pub some-limbs : 0 < length target
+  pub few-limbs : length target ≤ 64
+  pub digits-fit : p ≤ 64 * length target
+  pub spare-few : 64 * length target - p < 64
 
 four : (a b c d : Bool) → _≡_ {A = ℕ} (cond a (cond b (cond c (cond d 0 5) 4) 3) 2) 0 → (a ≡ true) × (b ≡ true) × (c ≡ true) × (d ≡ true)
 four true true true true e = (refl, refl, refl, refl)
@@ -43,44 +47,47 @@ or-first : (a b : Bool) → (a || b) ≡ true → a ≡ false → b ≡ true
 or-first true b e f = absurd (let z : _≡_ {A = ℕ} 0 1 = cc in omega arith)
 or-first false b e f = e
 
+-- the limbs of p digits
+module _ (p n : ℕ) (e : n ≡ limbsFor p) where
+  limbs-some : 2 ≤ p → 0 < n
+  unfolding limbsFor
+  limbs-some h = omega arith
+
+  limbs-few : p ≤ 4096 → n ≤ 64
+  unfolding limbsFor
+  limbs-few h = omega arith
+
+  limbs-fit : p ≤ 64 * n
+  unfolding limbsFor
+  limbs-fit = omega arith
+
+  limbs-spare : 2 ≤ p → 64 * n - p < 64
+  unfolding limbsFor
+  limbs-spare h = omega arith
+
 pub passed : (p : ℕ) (carry : Bool) (t : List ℕ) (unit : ℕ) → runRule p carry t unit ≡ 0 → Passed p carry t unit
-unfolding runRule leastPrecision
+unfolding runRule leastPrecision mostExponent bias
 passed p carry t unit e =
     let f = four (leb leastPrecision p && leb p mostPrecision) (eqb (length t) (limbsFor p)) (ltb 0 unit && leb unit (2 * mostExponent)) (carry || ltb 0 (getD t (length t - 1) 0)) e in
+    let least : 2 ≤ p = leb-true 2 p (and-left _ _ (f .0)) in
+    let most = precision-most p (f .0) in
+    let count = eqb-true (length t) (limbsFor p) (f .1) in
     record {
-      least = leb-true 2 p (and-left _ _ (f .0));
-      most = precision-most p (f .0);
-      count = eqb-true (length t) (limbsFor p) (f .1);
+      least = least;
+      most = most;
+      count = count;
       some = ltb-true 0 unit (and-left _ _ (f .2));
-      sight = leb-true unit (2 * mostExponent) (and-right (ltb 0 unit) _ (f .2));
+      small = leb-true unit (2 * mostExponent) (and-right (ltb 0 unit) _ (f .2));
       first = λ n. ltb-true 0 _ (or-first carry _ (f .3) n);
+      some-limbs = limbs-some p (length t) count least;
+      few-limbs = limbs-few p (length t) count most;
+      digits-fit = limbs-fit p (length t) count;
+      spare-few = limbs-spare p (length t) count least;
     }
 
--- the target's limbs hold the digits and fewer than 64 spare bits
-module _ (p : ℕ) (carry : Bool) (t : List ℕ) (unit : ℕ) (h : Passed p carry t unit) where
-  pub some-limbs : 0 < length t
-  unfolding limbsFor
-  some-limbs = omega (arith, h .least, h .count)
-
-  pub few-limbs : length t ≤ 64
-  unfolding limbsFor
-  few-limbs = omega (arith, h .most, h .count)
-
-  pub digits-fit : p ≤ 64 * length t
-  unfolding limbsFor
-  digits-fit = omega (arith, h .count)
-
-  pub spare-few : 64 * length t - p < 64
-  unfolding limbsFor
-  spare-few = omega (arith, h .least, h .count)
-
-  pub spare-is : spareBits p ≡ 64 * length t - p
-  unfolding spareBits
-  spare-is = ap (λ (n : ℕ). 64 * n - p) (sym (h .count))
-
-  pub weight-small : unit ≤ 2201170739198
-  unfolding mostExponent bias
-  weight-small = h .sight
+pub spare-is : (p n : ℕ) → n ≡ limbsFor p → spareBits p ≡ 64 * n - p
+unfolding spareBits
+spare-is p n e = ap (λ (m : ℕ). 64 * m - p) (sym e)
 
 -- ---- each rule, by the first test that fails
 

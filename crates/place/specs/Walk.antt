@@ -23,7 +23,8 @@ whole carry target guard = headed carry target * 2 ^ 64 + guard
 -- the run has as many digits as the target and `offset` more
 pub record Reaches (carry : Bool) (target : List ℕ) (offset : ℕ) : Type 0 where
   pub positive : 0 < offset
-  pub carried : carry ≡ true → offset ≡ 65
+  pub most : offset ≤ 65
+  pub carried : carry ≡ true → 65 ≤ offset
   pub plain : carry ≡ false → offset ≤ 64
   pub first : 2 ^ (64 * length target + offset) ≤ 2 * (headed carry target * 2 ^ 64)
   pub top : (headed carry target + 1) * 2 ^ 64 ≤ 2 ^ (64 * length target + offset)

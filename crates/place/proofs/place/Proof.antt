@@ -9,8 +9,7 @@ use mir.Facts.{toZ-ofZ}
 use mir.Syntax.{w8}
 use Rattle.limb.proofs.Carry.{byte-le}
 use Rattle.place.proofs.Answer.{placed}
-use Rattle.place.proofs.Reach.{reach-most}
-use Rattle.place.proofs.Rules.{passed, some-limbs, few-limbs, digits-fit, spare-few, weight-small}
+use Rattle.place.proofs.Rules.{passed}
 use borrow.Author.Needs.{needs}
 use Rattle.place.proofs.place.Statement.{statement}
 use Rattle.place.proofs.place.Tie as tie
@@ -20,113 +19,54 @@ clean : (v n P : ℕ) → v ≡ n * P → v % P ≡ 0
 clean v n P e = ap (λ (m : ℕ). m % P) e ∙ mul-mod-left n P
 
 mul-spare : tie.Need-mul-spare
-mul-spare c =
-    let s = c .before in
-    let g = s .args in
-    let ok = passed (g .precision) (g .carry) (g .target .now) (g .unit) (s .pre) in
-    omega (arith, few-limbs (g .precision) (g .carry) (g .target .now) (g .unit) ok)
+mul-spare c = let ok = passed _ _ _ _ (c .before .pre) in omega arith
 
 sub-spare : tie.Need-sub-spare
-sub-spare c =
-    let s = c .before in
-    let g = s .args in
-    let ok = passed (g .precision) (g .carry) (g .target .now) (g .unit) (s .pre) in
-    digits-fit (g .precision) (g .carry) (g .target .now) (g .unit) ok
+sub-spare c = passed _ _ _ _ (c .before .pre) .digits-fit
 
 reach-requires : tie.Need-reach-requires
-reach-requires c κs =
-    let s = c .before .before in
-    let g = s .args in
-    let ok = passed (g .precision) (g .carry) (g .target .now) (g .unit) (s .pre) in
-    (some-limbs (g .precision) (g .carry) (g .target .now) (g .unit) ok, ok .first)
+reach-requires c κs = let ok = passed _ _ _ _ (c .before .before .pre) in (ok .some-limbs, ok .first)
 
 slice-read-locate : tie.Need-slice-read-locate
-slice-read-locate c =
-    let s = c .before .before .before .before in
-    let g = s .args in
-    let ok = passed (g .precision) (g .carry) (g .target .now) (g .unit) (s .pre) in
-    some-limbs (g .precision) (g .carry) (g .target .now) (g .unit) ok
+slice-read-locate c = passed _ _ _ _ (c .before .before .before .before .pre) .some-limbs
 
 add-locate : tie.Need-add-locate
-add-locate c =
-    let s = c .before .before .before .before in
-    let g = s .args in
-    let ok = passed (g .precision) (g .carry) (g .target .now) (g .unit) (s .pre) in
-    let d = reach-most (g .carry) (g .target .now) (c .before .reach .result) (c .before .reach .ensures) in
-    omega (arith, d, spare-few (g .precision) (g .carry) (g .target .now) (g .unit) ok)
+add-locate c = let ok = passed _ _ _ _ (c .before .before .before .before .pre) in omega arith
 
 locate-requires : tie.Need-locate-requires
-locate-requires c κs =
-    let s = c .before .before .before .before in
-    let g = s .args in
-    let ok = passed (g .precision) (g .carry) (g .target .now) (g .unit) (s .pre) in
-    let d = reach-most (g .carry) (g .target .now) (c .before .reach .result) (c .before .reach .ensures) in
-    let few = spare-few (g .precision) (g .carry) (g .target .now) (g .unit) ok in
-    let some = c .before .reach .ensures .positive in
-    (omega arith, omega arith)
+locate-requires c κs = let ok = passed _ _ _ _ (c .before .before .before .before .pre) in (omega arith, omega arith)
 
 truncate-requires : tie.Need-truncate-requires
-truncate-requires c κs =
-    let s = c .before .before .before .before .before .before in
-    let g = s .args in
-    let ok = passed (g .precision) (g .carry) (g .target .now) (g .unit) (s .pre) in
-    (c .before .before .before .reach .ensures, some-limbs (g .precision) (g .carry) (g .target .now) (g .unit) ok, spare-few (g .precision) (g .carry) (g .target .now) (g .unit) ok)
+truncate-requires c κs = let ok = passed _ _ _ _ (c .before .before .before .before .before .before .pre) in (c .before .before .before .reach .ensures, ok .some-limbs, ok .spare-few)
 
 is-odd-requires : tie.Need-is-odd-requires
 is-odd-requires c κs =
-    let s = c .before .before .before .before .before .before .before .before .before .before in
-    let g = s .args in
-    let ok = passed (g .precision) (g .carry) (g .target .now) (g .unit) (s .pre) in
-    (lt-of-lt-of-le (some-limbs (g .precision) (g .carry) (g .target .now) (g .unit) ok) (le-of-eq (sym (c .before .before .before .truncate .ensures .size))), spare-few (g .precision) (g .carry) (g .target .now) (g .unit) ok)
+    let ok = passed _ _ _ _ (c .before .before .before .before .before .before .before .before .before .before .pre) in
+    (lt-of-lt-of-le (ok .some-limbs) (le-of-eq (sym (c .before .before .before .truncate .ensures .size))), ok .spare-few)
 
 rounds-up-requires : tie.Need-rounds-up-requires
 rounds-up-requires c κs = search needs
 
 round-up-requires : tie.Need-round-up-requires
 round-up-requires c κs =
-    let s = c .before .before .before .before .before .before .before .before .before .before .before .before .before in
-    let g = s .args in
-    let ok = passed (g .precision) (g .carry) (g .target .now) (g .unit) (s .pre) in
-    let cut = c .before .before .before .before .before .before .truncate .ensures in (
-      lt-of-lt-of-le (some-limbs (g .precision) (g .carry) (g .target .now) (g .unit) ok) (le-of-eq (sym (cut .size))),
-      spare-few (g .precision) (g .carry) (g .target .now) (g .unit) ok,
-      clean _ _ _ (cut .value),
-    )
+    let ok = passed _ _ _ _ (c .before .before .before .before .before .before .before .before .before .before .before .before .before .pre) in
+    let cut = c .before .before .before .before .before .before .truncate .ensures in
+    (lt-of-lt-of-le (ok .some-limbs) (le-of-eq (sym (cut .size))), ok .spare-few, clean _ _ _ (cut .value))
 
 add-settle : tie.Need-add-settle
-add-settle c =
-    let s = c .before .before .before .before .before .before .before .before .before .before .before .before .before .before .before .before .before in
-    let g = s .args in
-    let ok = passed (g .precision) (g .carry) (g .target .now) (g .unit) (s .pre) in
-    let d = reach-most (g .carry) (g .target .now) (c .before .before .before .before .before .before .before .before .before .before .before .before .before .before .reach .result) (c .before .before .before .before .before .before .before .before .before .before .before .before .before .before .reach .ensures) in
-    omega (arith, weight-small (g .precision) (g .carry) (g .target .now) (g .unit) ok, ok .most, d, spare-few (g .precision) (g .carry) (g .target .now) (g .unit) ok)
+add-settle c = let ok = passed _ _ _ _ (c .before .before .before .before .before .before .before .before .before .before .before .before .before .before .before .before .before .pre) in omega arith
 
 add-settle-2 : tie.Need-add-settle-2
-add-settle-2 c =
-    let s = c .before .before .before .before .before .before .before .before .before .before .before .before .before .before .before .before .before in
-    let g = s .args in
-    let ok = passed (g .precision) (g .carry) (g .target .now) (g .unit) (s .pre) in
-    let d = reach-most (g .carry) (g .target .now) (c .before .before .before .before .before .before .before .before .before .before .before .before .before .before .reach .result) (c .before .before .before .before .before .before .before .before .before .before .before .before .before .before .reach .ensures) in
-    omega (arith, weight-small (g .precision) (g .carry) (g .target .now) (g .unit) ok, ok .most, d, spare-few (g .precision) (g .carry) (g .target .now) (g .unit) ok)
+add-settle-2 c = let ok = passed _ _ _ _ (c .before .before .before .before .before .before .before .before .before .before .before .before .before .before .before .before .before .pre) in omega arith
 
 add-settle-3 : tie.Need-add-settle-3
-add-settle-3 c =
-    let s = c .before .before .before .before .before .before .before .before .before .before .before .before .before .before .before .before .before in
-    let g = s .args in
-    let ok = passed (g .precision) (g .carry) (g .target .now) (g .unit) (s .pre) in
-    let d = reach-most (g .carry) (g .target .now) (c .before .before .before .before .before .before .before .before .before .before .before .before .before .before .reach .result) (c .before .before .before .before .before .before .before .before .before .before .before .before .before .before .reach .ensures) in
-    omega (arith, weight-small (g .precision) (g .carry) (g .target .now) (g .unit) ok, ok .most, d, spare-few (g .precision) (g .carry) (g .target .now) (g .unit) ok)
+add-settle-3 c = let ok = passed _ _ _ _ (c .before .before .before .before .before .before .before .before .before .before .before .before .before .before .before .before .before .pre) in omega arith
 
 cast-settle : tie.Need-cast-settle
 cast-settle c = search needs
 
 add-settle-4 : tie.Need-add-settle-4
-add-settle-4 c =
-    let s = c .before .before .before .before .before .before .before .before .before .before .before .before .before .before .before .before .before in
-    let g = s .args in
-    let ok = passed (g .precision) (g .carry) (g .target .now) (g .unit) (s .pre) in
-    let d = reach-most (g .carry) (g .target .now) (c .before .before .before .before .before .before .before .before .before .before .before .before .before .before .reach .result) (c .before .before .before .before .before .before .before .before .before .before .before .before .before .before .reach .ensures) in
-    omega (arith, weight-small (g .precision) (g .carry) (g .target .now) (g .unit) ok, ok .most, d, spare-few (g .precision) (g .carry) (g .target .now) (g .unit) ok, byte-le (c .before .before .before .round-up .result))
+add-settle-4 c = let ok = passed _ _ _ _ (c .before .before .before .before .before .before .before .before .before .before .before .before .before .before .before .before .before .pre) in omega (arith, byte-le (c .before .before .before .round-up .result))
 
 ternary-requires : tie.Need-ternary-requires
 ternary-requires c κs = search needs

@@ -19,7 +19,7 @@ returns c =
     let m = c .before .before .move-down .ensures in
     let h = c .before .before .before .before .if1 .taken in
     let g = s .args in
-    record { size = m .size; value = m .value ∙ brought-down (g .carry) (g .target .now) (g .guard) (g .offset) (s .fits .guard .fits) h (s .pre .carried h) }
+    record { size = m .size; value = m .value ∙ brought-down (g .carry) (g .target .now) (g .guard) (g .offset) (s .fits .guard .fits) (s .pre) h }
 
 returns-2 : tie.Need-returns-2
 returns-2 c =
