@@ -1,0 +1,95 @@
+// The rounding step: a run of limbs is truncated to p digits in one walk over the target, and the last unit is added in a second.
+//
+//     carry | target, top limb first | guard | more
+//       1 b b b b b b b b b b b b b b b b b b            a carry: the target moves down by a bit
+//           0 0 1 b b b b b b b b b b b b b b            none: it moves up, as far as there are zeros
+//           [ p digits ][ digits below: offset + spare ]
+//
+ghost use mathlib.Core.Path.{_≡_};
+ghost use Rattle.place.specs.Placed.{runRule};
+ghost use Rattle.place.specs.Rounded.{roundedPlaced, roundedLimbs};
+
+mod rest; // rest.rt: where the part below the last kept digit lies, and what each mode makes of it
+mod truncation; // truncation.rt: walk one
+mod increment; // increment.rt: walk two
+mod limits; // limits.rt: which runs are rounded, and which exponents are in range
+
+use increment::is_odd;
+use increment::round_up;
+use limits::run_rule;
+use limits::settle;
+use rest::locate;
+use rest::rounds_up;
+use rest::ternary;
+use truncation::reach;
+use truncation::truncate;
+
+// The rule by which the run is refused, or 0; the counted exponent and the ternary value of what is selected.
+pub struct Placed {
+    pub rule: u8,
+    pub exponent: u64,
+    pub ternary: i8,
+}
+
+// Nothing below the last kept digit, or something below, at or above the middle.
+pub enum Location {
+    Exact,
+    Lower,
+    Tie,
+    Upper,
+}
+
+// Rounds a run that the rules let pass.
+fn place(
+    negative: bool,
+    carry: bool,
+    target: &mut [u64],
+    guard: u64,
+    more: bool,
+    unit: u64,
+    precision: u64,
+    mode: u8,
+) -> Placed
+    requires { ⌜ runRule precision carry (now target) unit ≡ 0 ⌝ }
+    ensures { λ r. ⌜ r ≡ roundedPlaced mode precision negative unit carry (now (target .entry)) guard more ⌝ }
+    ensures { λ r. ⌜ now (target .exit) ≡ roundedLimbs mode precision negative unit carry (now (target .entry)) guard more ⌝ }
+{
+    let spare = 64 * (target.len() as u64) - precision;
+    let offset = reach(carry, target);
+    let at = locate(target[0], guard, offset + spare, more);
+    truncate(carry, target, guard, offset, spare);
+    let up = rounds_up(mode, negative, at, is_odd(target, spare));
+    let over = round_up(target, spare, up);
+    settle(
+        target,
+        unit + precision + offset + spare + (over as u64),
+        ternary(negative, at, up),
+    )
+}
+
+// Rounds a run to `precision` digits: the target is left with them at its top, and the spare bits 0. The guard's last digit has the
+// counted weight `unit`, and `more` says that something lies below it. By rules 2 to 5 a run is refused and the target stays; by 6 and
+// 7 the selected exponent is out of range and the target is cleared.
+pub fn round_run(
+    negative: bool,
+    carry: bool,
+    target: &mut [u64],
+    guard: u64,
+    more: bool,
+    unit: u64,
+    precision: u64,
+    mode: u8,
+) -> Placed
+    ensures { λ r. ⌜ r ≡ roundedPlaced mode precision negative unit carry (now (target .entry)) guard more ⌝ }
+    ensures { λ r. ⌜ now (target .exit) ≡ roundedLimbs mode precision negative unit carry (now (target .entry)) guard more ⌝ }
+{
+    let rule = run_rule(precision, carry, target, unit);
+    if rule != 0 {
+        return Placed {
+            rule,
+            exponent: 0,
+            ternary: 0,
+        };
+    }
+    place(negative, carry, target, guard, more, unit, precision, mode)
+}
