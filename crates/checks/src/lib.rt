@@ -71,7 +71,7 @@ pub fn counted_exponent(e: i32) -> u64
     above as u64
 }
 
-// The exponent that is counted as c; 0 where no i32 is.
+// The exponent that is counted as c; 0 where no i32 is, below 2^40 - 2^31 and from 2^40 + 2^31 on.
 pub fn exponent_of(c: u64) -> i32
     ensures { λ r. ⌜ r ≡ exponentOf c ⌝ }
 {

@@ -4,11 +4,22 @@ use mathlib.Core.Bool.{Bool, true, false, not, cond, Bool·beq, true≢false}
 use Prim.Native.Nat.{ℕ, _+_, _-_, _*_, _^_, min, compare, Ordering, Ordering·lt, Ordering·eq, Ordering·gt}
 use native.Mathlib.Nat.{add-comm}
 use native.Mathlib.Omega.{arith}
+<<<<<<< HEAD
 use lib.IntN.{negℤ}
 use Rattle.numbers.specs.Operand.{Operand, mantissa, lastWeight, turned}
+=======
+use mathlib.Core.List.{List}
+use lib.Dec.{eqb}
+use lib.IntN.{pos, negℤ}
+use Rattle.numbers.specs.Operand.{Operand, mantissa, lastWeight, turned}
+use Rattle.checks.specs.declared.Number.{Number}
+use Rattle.checks.specs.Number.{operandOf}
+use Rattle.checks.specs.Check.{comparedRefusal}
+>>>>>>> checks
 use Rattle.rounding.specs.Sum.{scale, amount, share}
 use Rattle.rounding.proofs.Order.{Cmp, cmp, compare-at}
-use Rattle.order.specs.Order.{orderOf, caseOf, numberOf}
+use Rattle.order.specs.Order.{orderOf, caseOf, numberOf, signOf, comparedOf}
+use Rattle.order.specs.declared.Order.the-variants.{Equal}
 
 unfoldable pub reversed : Ordering → Ordering
 reversed Ordering·lt = Ordering·gt
@@ -30,6 +41,22 @@ unfolding reversed caseOf numberOf
 reversed-number Ordering·lt = refl
 reversed-number Ordering·eq = refl
 reversed-number Ordering·gt = refl
+
+-- the case that answers stands for the sign of x - y
+pub case-number : (o : Ordering) → numberOf (caseOf o) ≡ signOf o
+unfolding caseOf numberOf signOf
+case-number Ordering·lt = refl
+case-number Ordering·eq = refl
+case-number Ordering·gt = refl
+
+-- "a refused comparison gives 0 beside its number", and an accepted one the sign of x - y
+pub compared-number : (x y : Number) (xl yl : List ℕ) → let a = operandOf x xl in let b = operandOf y yl in numberOf (comparedOf x xl y yl .order) ≡ cond (eqb (comparedRefusal a b .rule) 0) (signOf (orderOf a b)) (pos 0)
+unfolding comparedOf numberOf
+compared-number x y xl yl = go (eqb (comparedRefusal (operandOf x xl) (operandOf y yl) .rule) 0) (orderOf (operandOf x xl) (operandOf y yl))
+  where
+    go : (b : Bool) (o : Ordering) → numberOf (cond b (caseOf o) Equal) ≡ cond b (signOf o) (pos 0)
+    go true o = case-number o
+    go false o = refl
 
 pub equal-itself : (x : Operand) → orderOf x x ≡ Ordering·eq
 unfolding orderOf

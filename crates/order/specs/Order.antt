@@ -31,6 +31,12 @@ numberOf Less = negsuc 0
 numberOf Equal = pos 0
 numberOf Greater = pos 1
 
+-- "compare (−1, 0, 1 ..)": the sign of x - y as a number
+unfoldable pub signOf : Ordering → ℤ
+signOf Ordering·lt = negsuc 0
+signOf Ordering·eq = pos 0
+signOf Ordering·gt = pos 1
+
 -- "Comparing and converting check 1 to 5 as far as they have those arguments; a refused comparison gives 0 beside its number."
 unfoldable pub comparedOf : Number → List ℕ → Number → List ℕ → Compared
 comparedOf x xl y yl =
