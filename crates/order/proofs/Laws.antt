@@ -4,10 +4,6 @@ use mathlib.Core.Bool.{Bool, true, false, not, cond, Bool·beq, true≢false}
 use Prim.Native.Nat.{ℕ, _+_, _-_, _*_, _^_, min, compare, Ordering, Ordering·lt, Ordering·eq, Ordering·gt}
 use native.Mathlib.Nat.{add-comm}
 use native.Mathlib.Omega.{arith}
-<<<<<<< HEAD
-use lib.IntN.{negℤ}
-use Rattle.numbers.specs.Operand.{Operand, mantissa, lastWeight, turned}
-=======
 use mathlib.Core.List.{List}
 use lib.Dec.{eqb}
 use lib.IntN.{pos, negℤ}
@@ -15,7 +11,6 @@ use Rattle.numbers.specs.Operand.{Operand, mantissa, lastWeight, turned}
 use Rattle.checks.specs.declared.Number.{Number}
 use Rattle.checks.specs.Number.{operandOf}
 use Rattle.checks.specs.Check.{comparedRefusal}
->>>>>>> checks
 use Rattle.rounding.specs.Sum.{scale, amount, share}
 use Rattle.rounding.proofs.Order.{Cmp, cmp, compare-at}
 use Rattle.order.specs.Order.{orderOf, caseOf, numberOf, signOf, comparedOf}
