@@ -9,7 +9,7 @@ pub use cutting::Cutter;
 pub use cutting::cut;
 pub use cutting::start;
 pub use reading::byte_at;
-pub use reading::fill;
+pub use reading::filled;
 pub use reading::limbs_at;
 pub use reading::number_at;
 pub use reading::pair_at;

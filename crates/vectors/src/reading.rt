@@ -3,6 +3,7 @@ use checks::Kind;
 use checks::Number;
 ghost use mathlib.Core.Path.{_≡_};
 ghost use Prim.Native.Nat.{_≤_, _<_};
+ghost use lib.ListN.{length};
 ghost use Rattle.checks.specs.Number.{exponentOf};
 ghost use Rattle.vectors.specs.Fields.{placeAfter, digitOf, digitAt, byteAt, pairAt, quadAt, wordAt, kindOf, countedFrom, numberAt};
 
@@ -137,15 +138,10 @@ pub fn limbs_at(line: &[u8], at: usize, out: &mut [u64; 80]) -> usize
     n
 }
 
-// Every limb set to eight times the same byte; how many there are.
-pub fn fill(byte: u64, out: &mut [u64; 80]) -> usize
-    ensures { λ r. ⌜ r ≡ 80 ⌝ }
+// 80 limbs, each eight times the same byte. The `ensures` gives the length, which lending them as a slice needs.
+pub fn filled(byte: u64) -> [u64; 80]
+    ensures { λ r. ⌜ 80 ≡ length r ⌝ }
 {
     let word = (byte % 256) * 72340172838076673;
-    let mut i: usize = 0;
-    while i < 80 {
-        out[i] = word;
-        i += 1;
-    }
-    80
+    [word; 80]
 }
