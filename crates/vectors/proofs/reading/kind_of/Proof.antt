@@ -1,5 +1,4 @@
 -- `vectors::kind_of`: regular exactly at 0. Assumes nothing.
-use borrow.Author.Needs.{needs}
 use Rattle.vectors.proofs.Digits.{regular-kind, zero-kind}
 use Rattle.vectors.proofs.reading.kind_of.Statement.{statement}
 use Rattle.vectors.proofs.reading.kind_of.Tie as tie

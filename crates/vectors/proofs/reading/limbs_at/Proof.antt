@@ -1,8 +1,6 @@
 -- `vectors::limbs_at`: no more limbs than there is room for. Assumes nothing.
 use Prim.Native.Nat.{_≤_, _-_}
 use borrow.Author.Needs.{needs}
-use lib.ListN.{length}
-use mathlib.Core.Path.{_≡_}
 use Rattle.vectors.proofs.reading.limbs_at.Statement.{statement}
 use Rattle.vectors.proofs.reading.limbs_at.Tie as tie
 
