@@ -686,10 +686,32 @@ def disguised(draw, case):
     return case._replace(operation=SUBTRACT, y=turn_sign(case.y))
 
 
+def by_family():
+    """Every case with its family's name and its number there, in a fixed order."""
+    draw = Draw("disguise")
+    for index, case in enumerate(marked()):
+        yield marked.__name__, index, case
+    for family in FAMILIES:
+        for index, case in enumerate(family()):
+            yield family.__name__, index, disguised(draw, case)
+
+
 def all_cases():
     """Every case, in a fixed order."""
-    draw = Draw("disguise")
-    yield from marked()
-    for family in FAMILIES:
-        for case in family():
-            yield disguised(draw, case)
+    for _, _, case in by_family():
+        yield case
+
+
+# Of the families named, so many of so many are kept where the output must stay below 1 MiB
+THINNED = {
+    "boundaries": (2, 3), "gaps": (2, 3), "range_ends": (2, 3), "ties": (2, 3), "cancellations": (2, 3),
+    "large": (1, 2),
+}
+
+
+def gate_cases():
+    """Sums, differences and re-roundings of every family, about 10,000."""
+    for family, index, case in by_family():
+        kept, of = THINNED.get(family, (1, 1))
+        if case.operation != COMPARE and index % of < kept:
+            yield case

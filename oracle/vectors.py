@@ -1,7 +1,7 @@
-"""Writes cases and answers as text: python3 oracle/vectors.py DIR
+"""Writes cases and answers as text: python3 oracle/vectors.py DIR [NAME..]
 
 Lowercase hexadecimal, fields of fixed size, one case a line. README.md lists
-the fields of each file.
+the fields of each file. With names, only those files are written.
 """
 
 import os
@@ -11,7 +11,9 @@ from collections import Counter
 import line_cases
 import double_cases
 import desk_cases
-from cases import ADD, COMPARE, REROUND, SUBTRACT, all_cases
+import compare_cases
+import marked_cases
+from cases import ADD, COMPARE, REROUND, SUBTRACT, all_cases, gate_cases
 from desk import desk
 from doubles import enclosing_pair, from_double, to_double
 from kernel import add, compare, reround, subtract
@@ -64,15 +66,42 @@ def sum_answer(case):
         answer = reround(case.x, *target)
     else:
         answer = {ADD: add, SUBTRACT: subtract}[case.operation](case.x, case.y, *target)
-    told = (field(answer.refusal, 1) + field(answer.place, 1) + number_fields(answer.number)
+    return sum_fields(case, answer), answer.refusal
+
+
+def sum_fields(case, answer):
+    return (field(answer.refusal, 1) + field(answer.place, 1) + number_fields(answer.number)
             + field(answer.ternary, 1) + field(answer.depth, 2) + field(answer.used1, 2)
             + field(answer.used2, 2) + left(answer.limbs, case.length, case.fill))
-    return told, answer.refusal
+
+
+def asked(cases):
+    for case in cases:
+        yield sum_given(case), *sum_answer(case)
 
 
 def sums():
-    for case in all_cases():
-        yield sum_given(case), *sum_answer(case)
+    return asked(all_cases())
+
+
+def gate():
+    return asked(gate_cases())
+
+
+def comparisons():
+    return asked(compare_cases.comparisons())
+
+
+def marked():
+    return asked(row.case for row in marked_cases.rows())
+
+
+def marked_text():
+    """Each marked row in words and in fields, the right answer beside the wrong one."""
+    for row in marked_cases.rows():
+        yield f"{row.name}\n  asked  {sum_given(row.case)}\n  right  {sum_answer(row.case)[0]}\n"
+        if row.wrong is not None:
+            yield f"  wrong  {sum_fields(row.case, row.wrong)}\n  right: {row.right_words}\n  wrong: {row.wrong_words}\n"
 
 
 # Doubles
@@ -124,6 +153,16 @@ def streams():
         yield given.hex(), printed.hex(), None
 
 
+def pair_of(pairs):
+    """The text of the questions, that of the answers, and how often each refusal is given."""
+    given, told, refusals = [], [], Counter()
+    for question, answer, refusal in pairs:
+        given.append(question + "\n")
+        told.append(answer + "\n")
+        refusals[refusal] += 1
+    return "".join(given).encode(), "".join(told).encode(), refusals
+
+
 def write_bytes(folder, name, content):
     with open(os.path.join(folder, name), "wb") as file:
         file.write(content)
@@ -131,31 +170,39 @@ def write_bytes(folder, name, content):
 
 
 def write_pairs(folder, name, pairs):
-    given, told, refusals = [], [], Counter()
-    for asked, answered, refusal in pairs:
-        given.append(asked + "\n")
-        told.append(answered + "\n")
-        refusals[refusal] += 1
-    sizes = [write_bytes(folder, f"{name}.{end}", "".join(text).encode())
-             for end, text in (("in", given), ("out", told))]
+    given, told, refusals = pair_of(pairs)
+    sizes = [write_bytes(folder, f"{name}.{end}", text) for end, text in (("in", given), ("out", told))]
     counts = ", ".join(f"{key}: {refusals[key]}" for key in sorted(refusals) if key is not None)
-    print(f"{name}: {len(given)} cases, {sizes[0]} and {sizes[1]} bytes"
+    print(f"{name}: {refusals.total()} cases, {sizes[0]} and {sizes[1]} bytes"
           + (f"; refusals {counts}" if counts else ""))
 
 
-def main(folder):
-    os.makedirs(folder, exist_ok=True)
-    write_pairs(folder, "sums", sums())
-    write_pairs(folder, "doubles", doubles())
-    write_pairs(folder, "lines", lines())
-    write_pairs(folder, "streams", streams())
-    given = desk_cases.long_input()
+def write_marked(folder, name, pairs):
+    write_pairs(folder, name, pairs)
+    write_bytes(folder, f"{name}.txt", "".join(marked_text()).encode())
+
+
+def write_desk(folder, name, given):
     printed = desk(given)
-    print(f"desk: {write_bytes(folder, 'desk.in', given)} bytes in, "
-          f"{write_bytes(folder, 'desk.out', printed)} bytes out")
+    print(f"{name}: {write_bytes(folder, f'{name}.in', given)} bytes in, "
+          f"{write_bytes(folder, f'{name}.out', printed)} bytes out")
+
+
+FILES = {
+    "sums": (write_pairs, sums), "compare": (write_pairs, comparisons), "gate": (write_pairs, gate),
+    "marked": (write_marked, marked), "doubles": (write_pairs, doubles), "lines": (write_pairs, lines),
+    "streams": (write_pairs, streams), "desk": (write_desk, desk_cases.long_input),
+}
+
+
+def main(folder, names):
+    os.makedirs(folder, exist_ok=True)
+    for name in names or FILES:
+        write, make = FILES[name]
+        write(folder, name, make())
 
 
 if __name__ == "__main__":
-    if len(sys.argv) != 2:
-        sys.exit("usage: python3 oracle/vectors.py DIR")
-    main(sys.argv[1])
+    if len(sys.argv) < 2 or not set(sys.argv[2:]) <= set(FILES):
+        sys.exit("usage: python3 oracle/vectors.py DIR [NAME..], with names of " + ", ".join(FILES))
+    main(sys.argv[1], sys.argv[2:])

@@ -1,0 +1,80 @@
+"""The questions and answers that the test programs have beside their source.
+
+    python3 oracle/stored.py           compares them with what is made today, byte for byte
+    python3 oracle/stored.py write     makes them anew
+
+A folder crates/tests_.. that is not listed here is reported.
+"""
+
+import os
+import sys
+from itertools import chain
+
+from vectors import comparisons, gate, marked, pair_of
+
+CRATES = os.path.join(os.path.dirname(os.path.dirname(os.path.abspath(__file__))), "crates")
+
+# what each program is run on; the output of a program must stay below 1 MiB
+PROGRAMS = {
+    "tests_order": comparisons,
+    "tests_sums": lambda: chain(marked(), gate()),
+}
+MOST_OUTPUT = 2**20 - 1
+
+
+def content(path):
+    if not os.path.exists(path):
+        return None
+    with open(path, "rb") as file:
+        return file.read()
+
+
+def first_difference(old, new):
+    """The first line that differs, counted from 1."""
+    pairs = zip(old.split(b"\n"), new.split(b"\n"))
+    for number, (a, b) in enumerate(pairs, 1):
+        if a != b:
+            return number
+    return min(old.count(b"\n"), new.count(b"\n")) + 1
+
+
+def compared(name, path, made):
+    old = content(path)
+    if old == made:
+        return True
+    place = "is missing" if old is None else f"differs from line {first_difference(old, made)} on"
+    print(f"{name}: {os.path.basename(path)} {place}")
+    return False
+
+
+def handle(name, write):
+    """Writes or compares one program's two files; whether all is well."""
+    given, told, refusals = pair_of(PROGRAMS[name]())
+    if len(told) > MOST_OUTPUT:
+        print(f"{name}: {len(told)} bytes of output are too many")
+        return False
+    files = [(os.path.join(CRATES, name, end), text) for end, text in (("stdin", given), ("stdout", told))]
+    if write:
+        for path, text in files:
+            with open(path, "wb") as file:
+                file.write(text)
+    well = all([compared(name, path, text) for path, text in files])
+    if well:
+        print(f"{name}: {refusals.total()} cases, {len(given)} and {len(told)} bytes, as made today")
+    return well
+
+
+def main(write):
+    well = True
+    for name in sorted(os.listdir(CRATES)):
+        if name.startswith("tests_"):
+            if name not in PROGRAMS:
+                print(f"{name}: nothing makes its files")
+            well &= name in PROGRAMS and handle(name, write)
+    return 0 if well else 1
+
+
+if __name__ == "__main__":
+    if sys.argv[1:] not in ([], ["write"]):
+        sys.exit("usage: python3 oracle/stored.py [write]")
+    sys.exit(main(sys.argv[1:] == ["write"]))
