@@ -1,0 +1,12 @@
+pub mod Read
+pub mod Rows
+pub mod Told
+pub mod Decision
+pub mod Refine
+pub mod Answers
+pub mod Exchange
+pub mod HoleDigits
+pub mod HoleSum
+pub mod Covered
+pub mod Theorems
+pub mod HoleTest

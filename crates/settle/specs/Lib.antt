@@ -1,0 +1,5 @@
+pub mod Ways
+pub mod Leaning
+pub mod Rows
+pub mod Ends
+pub mod Hole
