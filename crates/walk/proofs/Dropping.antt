@@ -2,26 +2,25 @@
 use mathlib.Core.Path.{_≡_, refl, sym, ap, _∙_, subst}
 use mathlib.Core.Bool.{Bool, true, false}
 use mathlib.Core.List.{List}
-use Prim.Native.Nat.{ℕ, zero, suc, _+_, _-_, _*_, _/_, _%_, _^_, _≤_, _<_}
+use Prim.Native.Nat.{ℕ, zero, suc, _+_, _-_, _*_, _%_, _^_, _≤_, _<_}
 use native.Mathlib.Nat.{mod-one, lt-of-not-le}
 use native.Mathlib.Omega.{arith}
-use lib.Dec.{ltb, leb, eqb}
+use lib.Dec.{eqb}
 use lib.Ieee.{size}
 use lib.Ieee.Digits.{size-lt}
-use lib.ListN.{length, drop, getD, drop-of-length-le}
-use lib.Pow.{pow-add, pow-pos, pow-mono}
-use borrow.Author.Tests.{eqb-true, eqb-false, eq-eqb, ne-eqb, le-leb, lt-leb}
-use Rattle.limb.specs.Value.{valueOf, valueIn}
+use lib.ListN.{length, getD, drop-of-length-le}
+use lib.Pow.{pow-add, pow-mono}
+use borrow.Author.Tests.{eq-eqb, ne-eqb, le-leb, lt-leb}
 use Rattle.limb.specs.Carry.{bit}
+use Rattle.limb.proofs.Carry.{bit-le}
 use Rattle.limb.proofs.Value.{value-nil, value-drop}
 use Rattle.walk.specs.declared.state.Window.{Window}
-use Rattle.walk.specs.declared.state.Tail.{Tail}
-use Rattle.walk.specs.declared.state.Tail.the-variants.{Empty, Zeros, Ones, Mixed}
+use Rattle.walk.specs.declared.state.Tail.the-variants.{Empty, Mixed}
 use Rattle.walk.specs.declared.rest.Rest.{Rest}
-use Rattle.walk.specs.Window.{headOf, shownColumns, TailIs, Fits, Shows}
+use Rattle.walk.specs.Window.{headOf, shownColumns, TailIs, Shows}
 use Rattle.walk.specs.Digits.{ShowsDigits}
-use Rattle.walk.specs.Rest.{RestOf, Marks, RestAt, highOf}
-use Rattle.walk.proofs.Tails.{column-weight, weight-large}
+use Rattle.walk.specs.Rest.{RestOf, Marks, RestAt, Settled, highOf}
+use Rattle.walk.proofs.Tails.{column-weight}
 use Rattle.walk.proofs.Showing.{whole-shows, tailed-shows, columns-guarded}
 use Rattle.walk.proofs.Walking.{tail-lt}
 use Rattle.walk.proofs.Resting.{rest-longer, next-is, whole-is}
@@ -142,7 +141,7 @@ module _ (w : Window) (target : List ℕ) (p digits : ℕ) (ds : ShowsDigits w t
   unfolding bit
   shown-open x g near h r =
       let o = whole-shows w target k D s g in
-      let most : digits ≤ 64 * w .filled + 64 * 0 + 1 = rw g at (ds .most) in
+      let most : digits ≤ 64 * w .filled + 64 * 0 + 1 = omega (arith, rw g at (ds .most), bit-le (w .carry)) in
       let full : w .filled ≡ length target = omega (arith, s .fits .within) in
       let all : digits ≡ size D = omega (arith, ds .exact k D s, o .below) in
       let value : highOf w target * 2 ^ 64 + getD target 0 0 ≡ D = sym (o .value ∙ head-full w target (s .fits .limbs) full) in
@@ -157,16 +156,10 @@ module _ (w : Window) (target : List ℕ) (p digits : ℕ) (ds : ShowsDigits w t
 
 -- ---- a mixed tail settles every case
 
-pub record Unsettled (x : Rest) : Type 0 where
-  pub zero : x .zero ≡ false
-  pub ones : x .ones ≡ false
-  pub almost : x .almost ≡ false
-  pub half : x .half ≡ false
-
-pub mixed-settles : (w : Window) (target : List ℕ) (p k D : ℕ) (x : Rest) → Shows w target k D → w .tail ≡ Mixed → p ≤ 64 * length target → RestOf p D x → Unsettled x
+pub mixed-settles : (w : Window) (target : List ℕ) (p k D : ℕ) (x : Rest) → Shows w target k D → w .tail ≡ Mixed → p ≤ 64 * length target → RestOf p D x → Settled x
 mixed-settles w target p k D x s mixed hp r = go (w .guarded) refl
   where
-    go : (b : Bool) → w .guarded ≡ b → Unsettled x
+    go : (b : Bool) → w .guarded ≡ b → Settled x
     go false g = absurd (let e : w .tail ≡ Empty = s .fits .untailed g .0 in let z : _≡_ {A = ℕ} 0 1 = cc in omega arith)
     go true g =
         let o = tailed-shows w target k D s g in

@@ -13,7 +13,7 @@ use Rattle.limb.specs.Value.{valueIn, Below}
 use Rattle.limb.specs.Carry.{bit}
 use Rattle.limb.proofs.Value.{value-set, value-split, value-lt}
 use Rattle.walk.specs.declared.change.Change.the-variants.{Stay, Rise, Fall}
-use Rattle.walk.specs.Change.{Moved, Risen, Fallen, partOf, ChangedAt, PassesLimb}
+use Rattle.walk.specs.Change.{Risen, Fallen, partOf, ChangedAt, PassesLimb}
 
 -- ---- one more limb, at i
 

@@ -3,7 +3,7 @@ use mathlib.Core.Path.{_≡_, refl, sym, ap, _∙_}
 use mathlib.Core.List.{List, _∷_}
 use Prim.Native.Nat.{ℕ, zero, suc, _+_, _-_, _*_, _/_, _%_, _^_, _≤_, _<_}
 use native.Mathlib.Decide.{decLe}
-use native.Mathlib.Nat.{div-lt-iff-lt-mul, div-div-eq-div-mul, div-add-mod', mul-div-mul-right, mul-assoc, zero-mod, zero-mul, mul-one, pow-zero, pow-succ'}
+use native.Mathlib.Nat.{div-eq-of-lt, div-lt-iff-lt-mul, div-div-eq-div-mul, div-add-mod', mul-div-mul-right, mul-assoc, zero-mod, zero-mul, mul-one, pow-zero, pow-succ'}
 use native.Mathlib.Omega.{arith}
 use lib.ListN.{length, getD, List·getD-eq-default}
 use lib.Bits.{bitOr, or-comm, or-zero-r}
@@ -41,26 +41,23 @@ module _ (gap : ℕ) (l : List ℕ) where
   column-lt k = omega arith
 
   module _ (h : Below (2 ^ 64) l) where
-    -- what begins `gap` digits below the top has so many fewer
-    pub read-bound : (k : ℕ) → readTo k gap l < 2 ^ (64 * k - gap)
-    unfolding readTo
-    read-bound k =
-        let fits : valueOf l * 2 ^ (64 * k) < 2 ^ (64 * length l + 64 * k) = shl-lt (64 * length l) (64 * k) (value-small l h) in
-        let room : 2 ^ (64 * length l + 64 * k) ≤ 2 ^ (64 * k - gap + (64 * length l + gap)) = pow-mono (omega arith) in
-        div-lt-iff-lt-mul (pow-pos (64 * length l + gap)) .1 (omega (arith, pow-add 2 (64 * k - gap) (64 * length l + gap)))
-
     -- above the first digit nothing is read
     pub read-early : (k : ℕ) → 64 * k ≤ gap → readTo k gap l ≡ 0
+    unfolding readTo
     read-early k e =
-        let none : 64 * k - gap ≡ 0 = omega arith in
-        let small : readTo k gap l < 2 ^ 0 = rw none at (read-bound k) in
-        omega arith
+        let fits : valueOf l * 2 ^ (64 * k) < 2 ^ (64 * length l + 64 * k) = shl-lt (64 * length l) (64 * k) (value-small l h) in
+        div-eq-of-lt (omega (arith, fits, pow-mono {i = 64 * length l + 64 * k} {j = 64 * length l + gap} (omega arith)))
 
     pub read-none : readTo 0 gap l ≡ 0
     read-none = read-early 0 (omega arith)
 
     pub read-lt : (k : ℕ) → readTo k gap l < 2 ^ (64 * k)
-    read-lt k = omega (arith, read-bound k, pow-mono {i = 64 * k - gap} {j = 64 * k} (omega arith))
+    unfolding readTo
+    read-lt k =
+        let P : ℕ = 2 ^ (64 * length l + gap) in
+        let fits : valueOf l * 2 ^ (64 * k) < 2 ^ (64 * length l + 64 * k) = shl-lt (64 * length l) (64 * k) (value-small l h) in
+        let room : 2 ^ (64 * length l + 64 * k) ≤ 2 ^ (64 * k + (64 * length l + gap)) = pow-mono {i = 64 * length l + 64 * k} {j = 64 * k + (64 * length l + gap)} (omega arith) in
+        div-lt-iff-lt-mul (pow-pos (64 * length l + gap)) .1 (omega (arith, pow-add 2 (64 * k) (64 * length l + gap)))
 
   -- below the last digit all is read
   pub read-all : (k : ℕ) → 64 * length l + gap ≤ 64 * k → readTo k gap l ≡ valueOf l * 2 ^ (64 * k - 64 * length l - gap)
@@ -99,14 +96,6 @@ unfolding raised
 raised-below zero l h i = h i
 raised-below (suc m) l h zero = omega arith
 raised-below (suc m) l h (suc i) = raised-below m l h i
-
-pub limb-within : (i : ℕ) (l : List ℕ) → i < length l → getD l (length l - 1 - i) 0 ≡ limbBelow i l
-unfolding limbBelow
-limb-within i l h = let e : length l - suc i ≡ length l - 1 - i = omega arith in rw (lt-ltb i (length l) h, e) refl
-
-pub limb-past : (i : ℕ) (l : List ℕ) → length l ≤ i → 0 ≡ limbBelow i l
-unfolding limbBelow
-limb-past i l h = rw (le-ltb i (length l) h) refl
 
 -- i limbs below the top, moved up i + 1 limbs, is the place of the limb above the top
 limb-raised : (i : ℕ) (l : List ℕ) → getD (raised (suc i) l) (length l) 0 ≡ limbBelow i l

@@ -1,30 +1,18 @@
 -- Laws of a rest: one word of it, digits more below it, and the rest of what a window shows. Assumes nothing.
 use mathlib.Core.Path.{_≡_, refl, sym, ap, _∙_, subst}
 use mathlib.Core.Bool.{Bool, true, false, not, _&&_, _||_}
-use mathlib.Core.List.{List}
 use Prim.Native.Nat.{ℕ, zero, suc, _+_, _-_, _*_, _/_, _%_, _^_, _≤_, _<_}
 use native.Mathlib.Decide.{decLe}
-use native.Mathlib.Nat.{mul-le-mul-right, mod-eq-of-lt, mod-one, one-mul, add-mul-mod-self-left, add-mul-div-left, pos-of-ne-zero}
+use native.Mathlib.Nat.{mul-le-mul-right, one-mul, add-mul-mod-self-left, add-mul-div-left, pos-of-ne-zero}
 use native.Mathlib.Omega.{arith}
-use lib.Dec.{ltb, leb, eqb, lit<}
-use lib.Ieee.{size}
-use lib.Ieee.Digits.{size-le, size-lt}
-use lib.ListN.{length, drop, getD, drop-of-length-le}
+use lib.Dec.{ltb, eqb, lit<}
 use lib.Pow.{pow-add, pow-pos, pow-mono, shl-exact, shr-shr, mod-pow-add, high, low}
-use borrow.Author.Tests.{eqb-true, eqb-false, ltb-true, ltb-false, eq-eqb, ne-eqb, lt-ltb, le-ltb, le-leb, lt-leb}
-use Rattle.limb.specs.Value.{valueOf, valueIn}
+use borrow.Author.Tests.{eqb-true, eqb-false, ltb-true, ltb-false, eq-eqb, ne-eqb, lt-ltb, le-ltb}
 use Rattle.limb.specs.Carry.{bit}
-use Rattle.limb.proofs.Value.{value-nil, value-drop}
-use Rattle.walk.specs.declared.state.Window.{Window}
-use Rattle.walk.specs.declared.state.Tail.{Tail}
 use Rattle.walk.specs.declared.state.Tail.the-variants.{Empty, Zeros, Ones, Mixed}
 use Rattle.walk.specs.declared.rest.Rest.{Rest}
-use Rattle.walk.specs.Window.{headOf, TailIs, Fits, Shows}
-use Rattle.walk.specs.Digits.{ShowsDigits}
-use Rattle.walk.specs.Rest.{RestOf, Marks, RestAt, LongerRest, TailedRest, highOf}
-use Rattle.walk.proofs.Tails.{column-weight, weight-large}
-use Rattle.walk.proofs.Showing.{whole-shows, tailed-shows, columns-guarded}
-use Rattle.walk.proofs.Walking.{tail-lt}
+use Rattle.walk.specs.Rest.{Marks, RestAt, LongerRest, TailedRest}
+use Rattle.walk.proofs.Tails.{weight-large}
 
 -- ---- tests that say the same
 
@@ -42,7 +30,7 @@ ltb-same a b c d f g = go (ltb a b) refl
     go true e = e ∙ sym (lt-ltb c d (f (ltb-true a b e)))
     go false e = e ∙ sym (le-ltb c d (g (ltb-false a b e)))
 
-both-same : (a b c d m n : ℕ) → (a ≡ b → c ≡ d → m ≡ n) → (m ≡ n → (a ≡ b) × (c ≡ d)) → eqb a b && eqb c d ≡ eqb m n
+pub both-same : (a b c d m n : ℕ) → (a ≡ b → c ≡ d → m ≡ n) → (m ≡ n → (a ≡ b) × (c ≡ d)) → eqb a b && eqb c d ≡ eqb m n
 both-same a b c d m n h k = go (eqb a b) refl (eqb c d) refl
   where
     go : (s : Bool) → eqb a b ≡ s → (t : Bool) → eqb c d ≡ t → s && t ≡ eqb m n
@@ -170,13 +158,15 @@ module _ (h word bits : ℕ) (few : bits ≤ 64) where
   pub word-low : (h * 2 ^ 64 + word) % 2 ^ bits ≡ word % 2 ^ bits
   word-low = ap (λ (x : ℕ). x % 2 ^ bits) (word-split (2 ^ bits) (2 ^ (64 - bits)) base-split) ∙ add-mul-mod-self-left word (2 ^ bits) (2 ^ (64 - bits) * h)
 
+  -- the bits above them
+  pub word-high : (h * 2 ^ 64 + word) / 2 ^ bits ≡ word / 2 ^ bits + 2 ^ (64 - bits) * h
+  word-high = ap (λ (x : ℕ). x / 2 ^ bits) (word-split (2 ^ bits) (2 ^ (64 - bits)) base-split) ∙ add-mul-div-left word (2 ^ (64 - bits) * h) (pow-pos bits)
+
   -- the bit above the low bits stands in the word
   pub word-above : (bits ≡ 64 → ⊥) → (h * 2 ^ 64 + word) / 2 ^ bits % 2 ≡ word / 2 ^ bits % 2
   word-above ne =
       let even : 2 ^ (64 - bits) ≡ 2 * 2 ^ (64 - bits - 1) = twice-half (64 - bits) (omega arith) in
-      let up : (h * 2 ^ 64 + word) / 2 ^ bits ≡ word / 2 ^ bits + 2 ^ (64 - bits) * h =
-      ap (λ (x : ℕ). x / 2 ^ bits) (word-split (2 ^ bits) (2 ^ (64 - bits)) base-split) ∙ add-mul-div-left word (2 ^ (64 - bits) * h) (pow-pos bits) in
-      even-part (word / 2 ^ bits) ((h * 2 ^ 64 + word) / 2 ^ bits) (2 ^ (64 - bits)) (2 ^ (64 - bits - 1)) even up
+      even-part (word / 2 ^ bits) ((h * 2 ^ 64 + word) / 2 ^ bits) (2 ^ (64 - bits)) (2 ^ (64 - bits - 1)) even word-high
     where
       even-part : (a b P Q : ℕ) → P ≡ 2 * Q → b ≡ a + P * h → b % 2 ≡ a % 2
       even-part a b P Q e f = let g : b ≡ a + 2 * (Q * h) = f ∙ ap (λ (x : ℕ). a + x) (omega (arith, ap (λ (x : ℕ). x * h) e)) in omega arith

@@ -2,25 +2,22 @@
 use mathlib.Core.Path.{_≡_, refl, sym, ap, _∙_, subst}
 use mathlib.Core.Bool.{Bool, true, false}
 use mathlib.Core.List.{List}
-use Prim.Native.Nat.{ℕ, zero, suc, _+_, _-_, _*_, _^_, _≤_, _<_}
-use native.Mathlib.Decide.{decLe}
-use native.Mathlib.Nat.{mul-le-mul-right, mul-le-mul-left, add-sub-of-le, lt-of-not-le}
+use Prim.Native.Nat.{ℕ, suc, _+_, _-_, _*_, _^_, _≤_, _<_}
+use native.Mathlib.Nat.{mul-le-mul-right, lt-of-not-le}
 use native.Mathlib.Numerals.{add-one}
 use native.Mathlib.Omega.{arith}
-use lib.ListN.{length, drop, getD, set, length-set, length-drop}
-use lib.Pow.{pow-add, pow-pos}
-use lib.Seq.{getD-set-same, drop-set-lt, getD-drop, drop-length}
-use Rattle.limb.specs.Value.{valueOf, valueIn, Below}
+use lib.ListN.{length, drop, set, length-set}
+use lib.Pow.{pow-add}
+use lib.Seq.{getD-set-same, drop-set-lt, drop-length}
+use Rattle.limb.specs.Value.{valueOf}
 use Rattle.limb.specs.Carry.{bit}
-use Rattle.limb.proofs.Carry.{bit-le}
-use Rattle.limb.proofs.Value.{value-nil, value-drop, value-lt, base-pow}
+use Rattle.limb.proofs.Value.{value-nil, value-drop, base-pow}
 use Rattle.walk.specs.declared.state.Window.{Window}
 use Rattle.walk.specs.declared.state.Tail.{Tail}
-use Rattle.walk.specs.declared.state.Tail.the-variants.{Empty, Zeros, Ones, Mixed}
+use Rattle.walk.specs.declared.state.Tail.the-variants.{Empty}
 use Rattle.walk.specs.declared.change.Change.{Change}
-use Rattle.walk.specs.declared.change.Change.the-variants.{Stay, Rise, Fall}
 use Rattle.walk.specs.Change.{Moved, partOf, ChangedAt, PassesLimb}
-use Rattle.walk.specs.Window.{headOf, shownOf, shownColumns, TailIs, Fits, Shows}
+use Rattle.walk.specs.Window.{headOf, shownOf, shownColumns, TailIs, Shows}
 use Rattle.walk.specs.Tail.{Unmixed, PassesTail}
 use Rattle.walk.specs.Append.{Appended}
 use Rattle.walk.proofs.Tails.{column-weight}

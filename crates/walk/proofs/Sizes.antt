@@ -3,7 +3,7 @@ use mathlib.Core.Path.{_≡_, refl, sym, ap, _∙_, subst}
 use mathlib.Core.Bool.{Bool, true, false}
 use mathlib.Core.List.{List}
 use Prim.Native.Nat.{ℕ, zero, suc, _+_, _-_, _*_, _^_, _≤_, _<_}
-use native.Mathlib.Nat.{mul-le-mul-right, lt-of-not-le, two-pow-succ, pos-of-ne-zero, le-of-lt}
+use native.Mathlib.Nat.{mul-le-mul-right, lt-of-not-le, pos-of-ne-zero}
 use native.Mathlib.Omega.{arith}
 use lib.Count.{leadingZeros, leading-top}
 use lib.Ieee.{size}
@@ -11,14 +11,14 @@ use lib.Ieee.Digits.{size-lt, size-le, size-reaches}
 use lib.ListN.{length, take, drop, getD, length-drop}
 use lib.Pow.{pow-add, pow-pos, pow-mono}
 use lib.Seq.{drop-drop, drop-length, getD-drop}
-use Rattle.limb.specs.Value.{valueOf, valueIn, Below}
+use Rattle.limb.specs.Value.{valueOf, Below}
 use Rattle.limb.specs.Carry.{bit}
 use Rattle.limb.proofs.Value.{value-nil, value-split, value-drop, value-lt, value-take-lt, base-pow}
 use Rattle.walk.specs.declared.state.Window.{Window}
-use Rattle.walk.specs.Window.{headOf, shownOf, shownColumns, TailIs, Fits, Shows}
+use Rattle.walk.specs.Window.{headOf, shownColumns, Fits, Shows}
 use Rattle.walk.specs.Digits.{ShowsDigits}
 use Rattle.walk.proofs.Tails.{column-weight}
-use Rattle.walk.proofs.Showing.{whole-shows, tailed-shows, unfilled-shows, columns-open, columns-guarded}
+use Rattle.walk.proofs.Showing.{whole-shows, tailed-shows, unfilled-shows}
 use Rattle.walk.proofs.Walking.{tail-lt}
 
 -- ---- a number's digits
@@ -171,3 +171,27 @@ module _ (w : Window) (target : List ℕ) (b : Below (2 ^ 64) target) where
       where
         limb-count : (f g z t e p j d : ℕ) → f ≡ suc p → e ≡ g + t → z + suc j ≡ 64 → d ≡ suc j + 64 * p + 64 * e → 64 * f + 64 * g - z + 64 * t ≡ d
         limb-count f g z t e p j d ef ee ez ed = omega arith
+
+-- ---- how many digits there are at least and at most, whatever is shown
+
+never-both : (p : Bool) → p ≡ false → p ≡ true → ⊥
+never-both p e f = let z : _≡_ {A = ℕ} 0 1 = cc in omega arith
+
+module _ (w : Window) (target : List ℕ) (r : ℕ) where
+  pub with-carry : w .carry ≡ true → r ≡ 64 * w .filled + 64 * bit (w .guarded) + 1 → ((k D : ℕ) (s : Shows w target k D) → r + 64 * s .below ≡ size D) → ShowsDigits w target r
+  unfolding bit
+  with-carry c e x = record { most = rw c (omega arith); least = rw c (omega arith); carried = λ y. e; exact = x }
+
+  pub without-carry : w .carry ≡ false → r ≤ 64 * w .filled + 64 * bit (w .guarded) → 64 * bit (w .guarded) ≤ r → ((k D : ℕ) (s : Shows w target k D) → r + 64 * s .below ≡ size D)
+      → ShowsDigits w target r
+  unfolding bit
+  without-carry c m l x = record { most = rw c (omega arith); least = rw c (omega arith); carried = λ y. absurd (never-both (w .carry) c y); exact = x }
+
+  -- a guard stands below a full target
+  pub unfilled-unguarded : Fits w target → w .filled ≡ 0 → bit (w .guarded) ≡ 0
+  unfolding bit
+  unfilled-unguarded f z = go (w .guarded) refl
+    where
+      go : (p : Bool) → w .guarded ≡ p → bit (w .guarded) ≡ 0
+      go true g = absurd (omega (arith, f .full g, f .limbs))
+      go false g = rw g refl

@@ -1,5 +1,5 @@
 -- Laws of a tail with one column more. M stands for 2 ^ (64 t), the weight of the t columns. Assumes nothing.
-use mathlib.Core.Path.{_≡_, refl, sym, ap, _∙_}
+use mathlib.Core.Path.{_≡_, refl, ap, _∙_}
 use Prim.Native.Nat.{ℕ, zero, suc, _+_, _-_, _*_, _^_, _≤_, _<_}
 use native.Mathlib.Nat.{mul-le-mul-left}
 use native.Mathlib.Omega.{arith}
@@ -8,9 +8,7 @@ use Rattle.walk.specs.declared.state.Tail.{Tail}
 use Rattle.walk.specs.declared.state.Tail.the-variants.{Empty, Zeros, Ones, Mixed}
 use Rattle.walk.specs.declared.change.Change.{Change}
 use Rattle.walk.specs.declared.change.Change.the-variants.{Stay, Rise, Fall}
-use Rattle.walk.specs.Change.{Moved}
-use Rattle.walk.specs.Window.{TailIs}
-use Rattle.walk.specs.Tail.{Unmixed, LongerTail, PassesTail}
+use Rattle.walk.specs.Tail.{LongerTail, PassesTail}
 
 -- one column more weighs 2 ^ 64 times as much
 pub column-weight : (t : ℕ) → 2 ^ (64 * suc t) ≡ 2 ^ 64 * 2 ^ (64 * t)

@@ -3,12 +3,12 @@ use mathlib.Core.Path.{_≡_, refl, sym, ap, _∙_, subst}
 use mathlib.Core.Bool.{Bool, true, false, not, _&&_}
 use mathlib.Core.List.{List}
 use Prim.Native.Nat.{ℕ, zero, suc, _+_, _-_, _*_, _^_, _≤_, _<_}
-use native.Mathlib.Nat.{mul-le-mul-right, mul-le-mul-left, lt-of-mul-lt-mul-left}
+use native.Mathlib.Nat.{mul-le-mul-right, lt-of-mul-lt-mul-left}
 use native.Mathlib.Omega.{arith}
 use lib.ListN.{length, drop, length-drop}
 use lib.Pow.{pow-add, pow-pos}
 use lib.Seq.{getD-drop}
-use Rattle.limb.specs.Value.{valueOf, valueIn, Below}
+use Rattle.limb.specs.Value.{valueOf, Below}
 use Rattle.limb.specs.Carry.{bit}
 use Rattle.limb.proofs.Carry.{bit-le}
 use Rattle.limb.proofs.Value.{value-lt, base-pow}
@@ -18,7 +18,7 @@ use Rattle.walk.specs.declared.state.Tail.the-variants.{Empty, Zeros, On
 use Rattle.walk.specs.declared.change.Change.{Change}
 use Rattle.walk.specs.declared.change.Change.the-variants.{Stay, Rise, Fall}
 use Rattle.walk.specs.Change.{Moved}
-use Rattle.walk.specs.Window.{headOf, shownOf, shownColumns, TailIs, Fits, Shows}
+use Rattle.walk.specs.Window.{headOf, shownColumns, TailIs, Shows}
 use Rattle.walk.specs.Tail.{Unmixed}
 use Rattle.walk.specs.Append.{Appended, Summed, Differed, Led}
 use Rattle.walk.proofs.Tails.{column-weight}

@@ -5,3 +5,4 @@ pub mod Tail
 pub mod Append
 pub mod Digits
 pub mod Rest
+pub mod Ones

@@ -24,6 +24,13 @@ pub record RestOf (p D : ℕ) (x : Rest) : Type 0 where
   pub above : p ≤ size D → x .above ≡ ltb (2 ^ (size D - p)) (D % 2 ^ (size D - p) * 2)
   pub odd : p < size D → x .odd ≡ eqb (D / 2 ^ (size D - p) % 2) 1
 
+-- no case that a carry or a borrow from below could still change
+pub record Settled (x : Rest) : Type 0 where
+  pub zero : x .zero ≡ false
+  pub ones : x .ones ≡ false
+  pub almost : x .almost ≡ false
+  pub half : x .half ≡ false
+
 -- ---- a rest as it is put together, from the limb that the last digit kept stands in down
 
 -- the rest r below a weight u

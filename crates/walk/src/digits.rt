@@ -7,8 +7,15 @@ ghost use Rattle.walk.specs.Window.{Fits};
 ghost use Rattle.walk.specs.Digits.{ShowsDigits};
 use crate::state::Window;
 
+// The digit of the carry.
+pub fn carry_digits(w: Window) -> u64
+    ensures { λ r. ⌜ r ≡ bit (w .carry) ⌝ }
+{
+    if w.carry { 1 } else { 0 }
+}
+
 // The digits of the guard.
-fn guard_digits(w: Window) -> u64
+pub fn guard_digits(w: Window) -> u64
     ensures { λ r. ⌜ r ≡ 64 * bit (w .guarded) ⌝ }
 {
     if w.guarded { 64 } else { 0 }

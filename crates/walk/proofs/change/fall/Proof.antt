@@ -1,7 +1,7 @@
 -- `walk::fall` is right since at each step the run with a one at `from` is the run as it came with a one lent at limb i. Assumes nothing.
 use Rattle.walk.proofs.Moving.{fall-passes, fall-ends}
-use mathlib.Core.Path.{_≡_, refl, sym, ap, _∙_}
-use Prim.Native.Nat.{ℕ, suc, _+_, _-_, _*_, _^_, _≤_, _<_}
+use mathlib.Core.Path.{_≡_, refl, _∙_}
+use Prim.Native.Nat.{suc, _+_, _-_, _^_, _≤_, _<_}
 use native.Mathlib.Omega.{arith}
 use lib.ListN.{length, take, getD, length-set}
 use lib.Seq.{take-set-le}

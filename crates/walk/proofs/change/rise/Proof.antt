@@ -1,7 +1,7 @@
 -- `walk::change::rise` is right since at each step the run with a one still due at limb i is the run as it came with a one at `from`. Assumes nothing.
 use Rattle.walk.proofs.Moving.{rise-passes, rise-ends}
-use mathlib.Core.Path.{_≡_, refl, sym, ap, _∙_}
-use Prim.Native.Nat.{ℕ, suc, _+_, _-_, _*_, _^_, _≤_, _<_}
+use mathlib.Core.Path.{_≡_, refl, _∙_}
+use Prim.Native.Nat.{_+_, _-_, _^_, _≤_, _<_}
 use native.Mathlib.Omega.{arith}
 use lib.ListN.{length, take, length-set}
 use lib.Seq.{take-set-le}

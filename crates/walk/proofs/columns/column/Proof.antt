@@ -1,5 +1,4 @@
--- `walk::columns::column` is right since above the gap's whole limbs nothing stands, and from there on a column is a limb, or the last digits of
--- one limb and the first of the next. Assumes nothing.
+-- `walk::column` is right since a column's digits stand in one limb, or in the last digits of a limb and the first of the next. Assumes nothing.
 use mathlib.Core.Path.{_∙_}
 use Rattle.walk.proofs.Reading.{column-early, column-whole, column-top, column-across}
 use borrow.Author.Needs.{needs}
@@ -8,29 +7,24 @@ use Rattle.walk.proofs.columns.column.Tie as tie
 
 returns : tie.Need-returns
 returns c =
-    let b = c .before in
-    let g = b .before .args in
-    column-early (g .limbs .now) (g .gap) (g .j) (λ i. b .shared-slice-known .given i .fits) (c .if1 .taken)
+    let g = c .before .before .args in
+    column-early (g .limbs .now) (g .gap) (g .j) (λ i. c .before .shared-slice-known .given i .fits) (c .if1 .taken)
 
 limb-below-top-requires : tie.Need-limb-below-top-requires
 limb-below-top-requires c κs = search needs
 
 returns-2 : tie.Need-returns-2
 returns-2 c =
-    let b = c .before .before .before in
-    let g = b .before .args in
-    c .before .limb-below-top .ensures
-    ∙ column-whole (g .limbs .now) (g .gap) (g .j) (λ i. b .shared-slice-known .given i .fits) (c .before .before .if1 .left) (c .if2 .taken)
+    let g = c .before .before .before .before .args in
+    c .before .limb-below-top .ensures ∙ column-whole (g .limbs .now) (g .gap) (g .j) (λ i. c .before .before .before .shared-slice-known .given i .fits) (c .before .before .if1 .left) (c .if2 .taken)
 
 shr-result : tie.Need-shr-result
 shr-result c = search needs
 
 returns-3 : tie.Need-returns-3
 returns-3 c =
-    let b = c .before .before .before .before in
-    let g = b .before .args in
-    rw (c .before .before .limb-below-top .ensures)
-    (column-top (g .limbs .now) (g .gap) (g .j) (λ i. b .shared-slice-known .given i .fits) (c .before .before .before .if1 .left) (c .if3 .taken))
+    let g = c .before .before .before .before .before .args in
+    rw (c .before .before .limb-below-top .ensures) (column-top (g .limbs .now) (g .gap) (g .j) (λ i. c .before .before .before .before .shared-slice-known .given i .fits) (c .before .before .before .if1 .left) (c .if3 .taken))
 
 sub-limb-below-top : tie.Need-sub-limb-below-top
 sub-limb-below-top c = search needs
@@ -49,10 +43,8 @@ shr-result-2 c = search needs
 
 returns-4 : tie.Need-returns-4
 returns-4 c =
-    let b = c .before .before .before .before .before in
-    let g = b .before .args in
-    rw (c .before .before .before .limb-below-top .ensures, c .limb-below-top2 .ensures)
-    (column-across (g .limbs .now) (g .gap) (g .j) (λ i. b .shared-slice-known .given i .fits) (c .before .before .before .before .if1 .left) (c .before .if3 .left))
+    let g = c .before .before .before .before .before .before .args in
+    rw (c .before .before .before .limb-below-top .ensures, c .limb-below-top2 .ensures) (column-across (g .limbs .now) (g .gap) (g .j) (λ i. c .before .before .before .before .before .shared-slice-known .given i .fits) (c .before .before .before .before .if1 .left) (c .before .if3 .left))
 
 pub column-spec : {M : Type 1} → statement M
 column-spec =

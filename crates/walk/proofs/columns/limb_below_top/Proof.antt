@@ -1,7 +1,11 @@
--- `walk::columns::limb_below_top` is right since within the list the limb is fetched, and below the lowest stands 0. Assumes nothing.
-use mathlib.Core.Path.{_∙_}
+-- `walk::columns::limb_below_top` is right since the limb i below the top of n is limb n - 1 - i. Assumes nothing.
+use mathlib.Core.Path.{_≡_, refl, _∙_}
+use Prim.Native.Nat.{ℕ, suc, _-_}
+use native.Mathlib.Omega.{arith}
+use lib.ListN.{length}
+use borrow.Author.Tests.{lt-ltb, le-ltb}
 use Rattle.checks.specs.Number.{fetched}
-use Rattle.walk.proofs.Reading.{limb-within, limb-past}
+use Rattle.walk.specs.Column.{limbBelow}
 use borrow.Author.Needs.{needs}
 use Rattle.walk.proofs.columns.limb_below_top.Statement.{statement}
 use Rattle.walk.proofs.columns.limb_below_top.Tie as tie
@@ -16,11 +20,18 @@ fetch-requires : tie.Need-fetch-requires
 fetch-requires c κs = search needs
 
 returns : tie.Need-returns
-unfolding fetched
-returns c = c .fetch .ensures ∙ limb-within _ _ (c .before .if1 .taken)
+unfolding limbBelow fetched
+returns c =
+    let g = c .before .before .before .args in
+    let n : ℕ = length (g .limbs .now) in
+    let e : n - 1 - g .i ≡ n - suc (g .i) = omega arith in
+    c .fetch .ensures ∙ rw (lt-ltb (g .i) n (c .before .if1 .taken), e) refl
 
 returns-2 : tie.Need-returns-2
-returns-2 c = limb-past _ _ (c .if1 .left)
+unfolding limbBelow
+returns-2 c =
+    let g = c .before .before .args in
+    rw (le-ltb (g .i) (length (g .limbs .now)) (c .if1 .left)) refl
 
 pub limb-below-top-spec : {M : Type 1} → statement M
 limb-below-top-spec = tie.close (tie.spec sub-at sub-at-2 fetch-requires returns returns-2)

@@ -5,7 +5,7 @@ use native.Mathlib.Omega.{arith}
 use lib.Count.{leading-le}
 use lib.ListN.{length, getD}
 use Rattle.limb.proofs.Carry.{bit-le}
-use Rattle.walk.proofs.Sizes.{digits-carry, digits-none, digits-limb}
+use Rattle.walk.proofs.Sizes.{digits-carry, digits-none, digits-limb, with-carry, without-carry, unfilled-unguarded}
 use borrow.Author.Needs.{needs}
 use Rattle.walk.proofs.digits.digits_of.Statement.{statement}
 use Rattle.walk.proofs.digits.digits_of.Tie as tie
@@ -23,10 +23,16 @@ add-result : tie.Need-add-result
 add-result c = omega (arith, c .before .guard-digits .ensures, bit-le (c .before .before .before .args .w .guarded))
 
 returns : tie.Need-returns
-returns c = record { most = omega (arith, c .before .guard-digits .ensures); exact = λ k D s. omega (arith, c .before .guard-digits .ensures, digits-carry (c .before .before .before .args .w) (c .before .before .before .args .target .now) (λ i. c .before .before .shared-slice-known .given i .fits) k D s (c .if1 .taken)) }
+returns c =
+    let g = c .before .before .before .args in
+    let e = c .before .guard-digits .ensures in
+    with-carry (g .w) (g .target .now) _ (c .if1 .taken) (omega arith) (λ k D s. omega (arith, digits-carry (g .w) (g .target .now) (λ i. c .before .before .shared-slice-known .given i .fits) k D s (c .if1 .taken)))
 
 returns-2 : tie.Need-returns-2
-returns-2 c = record { most = omega arith; exact = λ k D s. digits-none (c .before .before .before .before .args .w) (c .before .before .before .before .args .target .now) (λ i. c .before .before .before .shared-slice-known .given i .fits) k D s (c .before .if1 .left) (c .if2 .taken) }
+returns-2 c =
+    let g = c .before .before .before .before .args in
+    let none = unfilled-unguarded (g .w) (g .target .now) 0 (c .before .before .before .before .pre .0) (c .if2 .taken) in
+    without-carry (g .w) (g .target .now) 0 (c .before .if1 .left) (omega arith) (omega arith) (λ k D s. digits-none (g .w) (g .target .now) (λ i. c .before .before .before .shared-slice-known .given i .fits) k D s (c .before .if1 .left) (c .if2 .taken))
 
 sub-top : tie.Need-sub-top
 sub-top c = search needs
@@ -46,7 +52,11 @@ sub-result c = omega (arith, leading-le 64 (getD (c .before .before .before .bef
 returns-3 : tie.Need-returns-3
 returns-3 c =
     let g = c .before .before .before .before .before .args in
-    record { most = omega (arith, c .before .before .before .guard-digits .ensures); exact = λ k D s. rw (c .before .before .before .guard-digits .ensures) (digits-limb (g .w) (g .target .now) (λ i. c .before .before .before .before .shared-slice-known .given i .fits) k D s (c .before .before .if1 .left) (pos-of-ne-zero (c .before .if2 .left))) }
+    let e = c .before .before .before .guard-digits .ensures in
+    let top = leading-le 64 (getD (g .target .now) (length (g .target .now) - 1) 0) in
+    let some = pos-of-ne-zero (c .before .if2 .left) in
+    without-carry (g .w) (g .target .now) _ (c .before .before .if1 .left) (omega arith) (omega arith)
+    (λ k D s. rw (c .before .before .before .guard-digits .ensures) (digits-limb (g .w) (g .target .now) (λ i. c .before .before .before .before .shared-slice-known .given i .fits) k D s (c .before .before .if1 .left) some))
 
 pub digits-of-spec : {M : Type 1} → statement M
 digits-of-spec =

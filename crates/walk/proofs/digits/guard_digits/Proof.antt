@@ -1,7 +1,6 @@
 -- `walk::digits::guard_digits`: a guard has 64 digits. Assumes nothing.
 use mathlib.Core.Path.{refl}
 use Rattle.limb.specs.Carry.{bit}
-use borrow.Author.Needs.{needs}
 use Rattle.walk.proofs.digits.guard_digits.Statement.{statement}
 use Rattle.walk.proofs.digits.guard_digits.Tie as tie
 

@@ -1,116 +1,79 @@
--- `walk::ones::ones_from` is right since the carry is the first digit, or else that of the top limb is, and those below follow it. Assumes nothing.
-use mathlib.Core.Path.{sym, _∙_}
-use Prim.Native.Nat.{ℕ, _-_}
+-- `walk::ones::ones_from` is right since a limb of all ones takes 64 ones off, and the top limb has what is left. Assumes nothing.
+use mathlib.Core.Path.{_≡_, refl, sym, ap, _∙_}
+use Prim.Native.Nat.{ℕ, suc, _+_, _-_, _*_, _^_, _≤_, _<_}
+use native.Mathlib.Nat.{div-one}
 use native.Mathlib.Omega.{arith}
-use lib.Count.{leading-le}
-use lib.Ieee.Digits.{size-lt}
-use lib.ListN.{length, getD}
-use borrow.Author.Tests.{not-true, not-false}
-use Rattle.walk.proofs.Leading.{none-ones, limbs-some, word-size, carry-on, top-decides, top-broken, top-full}
+use lib.Dec.{eqb}
+use lib.ListN.{length, drop}
+use Rattle.limb.specs.Value.{valueIn}
+use Rattle.walk.proofs.Leading.{last-limb, ones-pass, ones-stop}
 use borrow.Author.Needs.{needs}
 use Rattle.walk.proofs.ones.ones_from.Statement.{statement}
 use Rattle.walk.proofs.ones.ones_from.Tie as tie
 
-returns : tie.Need-returns
-returns c x e = rw (c .if2 .taken) (none-ones _ x (size-lt x))
+abbrev Inv-loop : tie.InvT-loop
+Inv-loop target from count i₀ left₀ i left =
+    (i ≤ length target) × (left ≤ 64 * (length target - i)) × (64 * (length target - i) < left + 64)
+    × (eqb (suc (valueIn (2 ^ 64) (drop i target))) (2 ^ left) ≡ eqb (suc (valueIn (2 ^ 64) (drop from target))) (2 ^ count))
 
-sub-ones-below : tie.Need-sub-ones-below
-sub-ones-below c = search needs
+abbrev μ-loop : tie.MeasureT-loop
+μ-loop target from count i₀ left₀ i left = left
 
-ones-below-requires : tie.Need-ones-below-requires
-ones-below-requires c κs = search needs
+loop-holds : tie.Need-loop-holds Inv-loop μ-loop
+loop-holds c = (c .before .pre .0, c .before .pre .1, c .before .pre .2, refl)
 
-returns-2 : tie.Need-returns-2
-returns-2 c x e =
-    let b = c .before .before .before in
-    let g = b .before .args in
-    c .ones-below .ensures ∙ carry-on (g .limbs .now) (g .guard) (λ j. b .shared-slice-known .given j .fits) (b .before .fits .guard .fits) (g .carry) x e (c .before .before .if1 .taken) (g .count) (c .before .if2 .left)
+mul-if1 : tie.Need-mul-if1 Inv-loop μ-loop
+mul-if1 c = search needs
 
-sub-top : tie.Need-sub-top
-sub-top c = limbs-some (c .before .before .args .limbs .now) (c .before .before .pre (c .if1 .left))
+shared-slice-read-if1 : tie.Need-shared-slice-read-if1 Inv-loop μ-loop
+shared-slice-read-if1 c = search needs
 
-mul-top : tie.Need-mul-top
-mul-top c = search needs
+returns : tie.Need-returns Inv-loop μ-loop
+returns c =
+    let l = c .before .before .before .loop in
+    ones-stop (c .before .before .before .before .before .args .target .now) (l .i) (λ i. c .before .before .before .before .shared-slice-known .given i .fits) (l .left) (c .before .before .loop-test .taken) (c .if1 .taken) ∙ l .inv .3
 
-shared-slice-read-top : tie.Need-shared-slice-read-top
-shared-slice-read-top c = omega (arith, limbs-some (c .before .before .before .args .limbs .now) (c .before .before .before .pre (c .before .if1 .left)))
+add-i : tie.Need-add-i Inv-loop μ-loop
+add-i c = search needs
 
-cast-digits : tie.Need-cast-digits
-cast-digits c = search (needs, leading-le 64 (getD (c .before .before .before .args .limbs .now) (length (c .before .before .before .args .limbs .now) - 1) 0))
+loop-less : tie.Need-loop-less Inv-loop μ-loop
+loop-less c = search needs
 
-sub-digits : tie.Need-sub-digits
-sub-digits c = leading-le 64 _
+loop-again : tie.Need-loop-again Inv-loop μ-loop
+loop-again c =
+    let l = c .before .before .before .loop in (
+      omega arith,
+      omega arith,
+      omega arith,
+      ones-pass (c .before .before .before .before .before .args .target .now) (l .i) (λ i. c .before .before .before .before .shared-slice-known .given i .fits) (l .left) (c .before .before .loop-test .taken) (c .if1 .left) ∙ l .inv .3,
+    )
 
-word-ones-requires : tie.Need-word-ones-requires
-word-ones-requires c κs =
-    let b = c .before .before .before in
-    let g = b .before .args in
-    let p = b .before .pre (c .before .before .if1 .left) in
-    let top : ℕ = getD (g .limbs .now) (length (g .limbs .now) - 1) 0 in
-    (rw (word-size top p (b .shared-slice-known .given (length (g .limbs .now) - 1) .fits)) (size-lt top), omega arith, c .if3 .taken)
+limb-at-requires : tie.Need-limb-at-requires Inv-loop μ-loop
+limb-at-requires c κs = search needs
 
-returns-3 : tie.Need-returns-3
-returns-3 c x e =
-    let b = c .before .before .before .before in
-    let g = b .before .args in
-    let p = b .before .pre (c .before .before .before .if1 .left) in
-    let top : ℕ = getD (g .limbs .now) (length (g .limbs .now) - 1) 0 in
-    let d = word-size top p (b .shared-slice-known .given (length (g .limbs .now) - 1) .fits) in
-    c .word-ones .ensures ∙ top-decides (g .limbs .now) (g .guard) (λ j. b .shared-slice-known .given j .fits) (b .before .fits .guard .fits) (g .carry) x e (c .before .before .before .if1 .left) p _ d (g .count) (c .before .if3 .taken)
+limb-ones-requires : tie.Need-limb-ones-requires Inv-loop μ-loop
+limb-ones-requires c κs = search needs
 
-word-ones-requires-2 : tie.Need-word-ones-requires-2
-word-ones-requires-2 c κs =
-    let b = c .before .before .before in
-    let g = b .before .args in
-    let p = b .before .pre (c .before .before .if1 .left) in
-    let top : ℕ = getD (g .limbs .now) (length (g .limbs .now) - 1) 0 in
-    (rw (word-size top p (b .shared-slice-known .given (length (g .limbs .now) - 1) .fits)) (size-lt top), omega arith, omega arith)
-
-returns-4 : tie.Need-returns-4
-returns-4 c x e =
-    let b = c .before .before .before .before .before in
-    let g = b .before .args in
-    let p = b .before .pre (c .before .before .before .before .if1 .left) in
-    let top : ℕ = getD (g .limbs .now) (length (g .limbs .now) - 1) 0 in
-    let d = word-size top p (b .shared-slice-known .given (length (g .limbs .now) - 1) .fits) in
-    top-broken (g .limbs .now) (g .guard) (λ j. b .shared-slice-known .given j .fits) (b .before .fits .guard .fits) (g .carry) x e (c .before .before .before .before .if1 .left) p _ d (g .count) (c .before .before .if3 .left) (sym (c .before .word-ones2 .ensures) ∙ not-true (c .before .word-ones2 .result) (c .if4 .taken))
-
-sub-ones-below-2 : tie.Need-sub-ones-below-2
-sub-ones-below-2 c = limbs-some (c .before .before .before .before .before .before .args .limbs .now) (c .before .before .before .before .before .before .pre (c .before .before .before .before .if1 .left))
-
-sub-ones-below-3 : tie.Need-sub-ones-below-3
-sub-ones-below-3 c = search needs
-
-ones-below-requires-2 : tie.Need-ones-below-requires-2
-ones-below-requires-2 c κs = search needs
-
-returns-5 : tie.Need-returns-5
-returns-5 c x e =
-    let b = c .before .before .before .before .before .before in
-    let g = b .before .args in
-    let p = b .before .pre (c .before .before .before .before .before .if1 .left) in
-    let top : ℕ = getD (g .limbs .now) (length (g .limbs .now) - 1) 0 in
-    let d = word-size top p (b .shared-slice-known .given (length (g .limbs .now) - 1) .fits) in
-    c .ones-below2 .ensures ∙ top-full (g .limbs .now) (g .guard) (λ j. b .shared-slice-known .given j .fits) (b .before .fits .guard .fits) (g .carry) x e (c .before .before .before .before .before .if1 .left) p _ d (g .count) (c .before .before .before .if3 .left) (sym (c .before .before .word-ones2 .ensures) ∙ not-false (c .before .before .word-ones2 .result) (c .before .if4 .left))
+returns-2 : tie.Need-returns-2 Inv-loop μ-loop
+returns-2 c =
+    let l = c .before .before .before .loop in
+    let t = c .before .before .before .before .before .args .target .now in
+    c .limb-ones .ensures
+    ∙ ap (λ (n : ℕ). eqb (suc n) (2 ^ l .left)) (div-one (c .before .limb-at .result) ∙ c .before .limb-at .ensures ∙ sym (last-limb t (l .i) (omega arith))) ∙ l .inv .3
 
 pub ones-from-spec : {M : Type 1} → statement M
 ones-from-spec =
     tie.close
     (tie.spec
+    Inv-loop
+    μ-loop
+    loop-holds
+    mul-if1
+    shared-slice-read-if1
     returns
-    sub-ones-below
-    ones-below-requires
-    returns-2
-    sub-top
-    mul-top
-    shared-slice-read-top
-    cast-digits
-    sub-digits
-    word-ones-requires
-    returns-3
-    word-ones-requires-2
-    returns-4
-    sub-ones-below-2
-    sub-ones-below-3
-    ones-below-requires-2
-    returns-5)
+    add-i
+    loop-less
+    loop-again
+    limb-at-requires
+    limb-ones-requires
+    returns-2)

@@ -1,7 +1,6 @@
 -- `walk::rest::longer_rest` is right since each test of a longer rest is the old one with a test of the digits below. Assumes nothing.
 use lib.Dec.{eqb}
 use Rattle.walk.proofs.Resting.{longer-is}
-use borrow.Author.Needs.{needs}
 use Rattle.walk.proofs.rest.longer_rest.Statement.{statement}
 use Rattle.walk.proofs.rest.longer_rest.Tie as tie
 

@@ -48,7 +48,7 @@ unfolding bit
 word-rest-requires c κs =
     let d = c .before .before .before .before .before .before .digits-of in
     let open-window : c .before .before .before .before .before .before .before .before .args .w .guarded ≡ false = not-true _ (c .before .if3 .taken) in
-    let most : d .result ≤ 64 * c .before .before .before .before .before .before .before .before .args .w .filled + 64 * 0 + 1 = rw open-window at (d .ensures .most) in
+    let most : d .result ≤ 64 * c .before .before .before .before .before .before .before .before .args .w .filled + 64 * 0 + 1 = omega (arith, rw open-window at (d .ensures .most), bit-le (c .before .before .before .before .before .before .before .before .args .w .carry)) in
     let within = c .before .before .before .before .before .before .before .before .pre .0 .within in
     (omega arith, omega arith)
 
@@ -87,6 +87,7 @@ word-rest-requires-3 c κs =
     let d = c .before .before .before .before .before .before .before .digits-of in
     let most = d .ensures .most in
     let one = bit-le (c .before .before .before .before .before .before .before .before .before .args .w .guarded) in
+    let carry-one = bit-le (c .before .before .before .before .before .before .before .before .before .args .w .carry) in
     let within = c .before .before .before .before .before .before .before .before .before .pre .0 .within in
     (omega arith, omega arith)
 

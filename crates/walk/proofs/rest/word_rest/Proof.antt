@@ -1,6 +1,6 @@
 -- `walk::rest::word_rest` is right since each test of the rest is one against half its weight. Assumes nothing.
-use mathlib.Core.Path.{refl, sym}
-use Prim.Native.Nat.{ℕ, _-_, _^_}
+use mathlib.Core.Path.{refl}
+use Prim.Native.Nat.{_-_, _^_}
 use native.Mathlib.Omega.{arith}
 use lib.Pow.{pow-pos}
 use Rattle.walk.proofs.Resting.{one-moved, word-low, word-marks, twice-half, half-fits}

@@ -3,7 +3,6 @@ use mathlib.Core.Path.{refl}
 use mathlib.Core.Bool.{false}
 use Rattle.limb.specs.Carry.{bit}
 use Rattle.walk.proofs.Showing.{show-start}
-use borrow.Author.Needs.{needs}
 use Rattle.walk.proofs.state.start.Statement.{statement}
 use Rattle.walk.proofs.state.start.Tie as tie
 

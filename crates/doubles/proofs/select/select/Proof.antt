@@ -1,0 +1,51 @@
+-- `doubles::select::select`: below two limbs only whether something stands there counts, so the run answers as the number does. Assumes nothing.
+use mathlib.Core.Path.{_≡_}
+use Prim.Native.Nat.{_≤_}
+use native.Mathlib.Omega.{arith}
+use mir.Facts.{toZ-ofZ}
+use Rattle.numbers.specs.Limits.{counted}
+use Rattle.checks.specs.Number.{operandOf}
+use Rattle.doubles.proofs.Run.{limb-count, wide-exponent, selects}
+use borrow.Author.Needs.{needs}
+use Rattle.doubles.proofs.select.select.Statement.{statement}
+use Rattle.doubles.proofs.select.select.Tie as tie
+
+leading-requires : tie.Need-leading-requires
+unfolding operandOf
+leading-requires c κs = limb-count _ (c .before .pre .0) (c .before .pre .1)
+
+counted-exponent-requires : tie.Need-counted-exponent-requires
+counted-exponent-requires c κs = search needs
+
+-- the exponent is read back from its bits
+counted-back : (c : tie.After-counted-exponent) → c .counted-exponent .result ≡ counted (c .before .before .before .before .args .x .exponent)
+counted-back c = rw (toZ-ofZ (record { sfits = c .before .struct-told .given .1 .1 .1 .0 .1 })) at (c .counted-exponent .ensures)
+
+sub-unit : tie.Need-sub-unit
+unfolding operandOf
+sub-unit c = let w : 8192 ≤ counted (c .before .before .before .before .args .x .exponent) = wide-exponent _ (c .before .before .before .before .pre .0) (c .before .before .before .before .pre .1) in rw (counted-back c) (omega arith)
+
+slice-aggregate-round-run : tie.Need-slice-aggregate-round-run
+slice-aggregate-round-run c = search needs
+
+round-run-requires : tie.Need-round-run-requires
+round-run-requires c κs = search needs
+
+array-read-t8 : tie.Need-array-read-t8
+array-read-t8 c = search needs
+
+returns : tie.Need-returns
+unfolding operandOf
+returns c = selects _ (c .before .before .before .before .before .before .before .pre .0) (c .before .before .before .before .before .before .before .pre .1) _ _ (c .before .before .before .before .before .leading .ensures) _ _ _ (counted-back (c .before .before .before)) (c .before .round-run .ensures .0) (c .before .round-run .ensures .1)
+
+pub select-spec : {M : Type 1} → statement M
+select-spec =
+    tie.close
+    (tie.spec
+    leading-requires
+    counted-exponent-requires
+    sub-unit
+    slice-aggregate-round-run
+    round-run-requires
+    array-read-t8
+    returns)

@@ -1,0 +1,13 @@
+-- `doubles::unpack::read`: as the definition says. Assumes nothing.
+use mir.Facts.{toZ-ofZ}
+use Rattle.checks.specs.Check.{accepted}
+use Rattle.doubles.specs.Steps.{readAs}
+use Rattle.doubles.proofs.unpack.read.Statement.{statement}
+use Rattle.doubles.proofs.unpack.read.Tie as tie
+
+returns : tie.Need-returns
+unfolding readAs accepted
+returns c = rw (toZ-ofZ (c .fits .exponent))
+
+pub read-spec : {M : Type 1} → statement M
+read-spec = tie.close (tie.spec returns)

@@ -1,0 +1,5 @@
+pub mod Double
+pub mod Convert
+pub mod Enclose
+pub mod Read
+pub mod Steps
