@@ -1,0 +1,179 @@
+// Runs the conversions on standard input, one a line, and prints one answer a line. A double stands by its bits.
+use checks::Number;
+use checks::Refusal;
+use doubles::Converted;
+use doubles::Enclosed;
+use doubles::FromDouble;
+ghost use Prim.Native.Nat.{_≤_};
+
+// The pattern of +infinity; above it, the sign's bit apart, stand those of NaNs.
+const INFINITY: u64 = 9218868437227405312;
+
+// Printed for a NaN, which no answer is.
+const A_NAN: u64 = 9221120237041090560;
+
+fn bits_of(x: f64) -> u64 {
+    if x != x {
+        return A_NAN;
+    }
+    f64::to_bits(x)
+}
+
+// The double of a pattern; for every NaN's pattern the NaN that the division gives.
+fn double_of(bits: u64) -> f64 {
+    if INFINITY < bits % 9223372036854775808 {
+        let zero: f64 = 0.0;
+        return zero / zero;
+    }
+    f64::from_bits(bits)
+}
+
+fn put_refusal(out: &mut [u8; 4096], refusal: Refusal) -> usize
+    ensures { λ r. ⌜ r ≤ 4096 ⌝ }
+{
+    let a = vectors::put_byte(out, 0, refusal.rule as u64);
+    vectors::put_byte(out, a, refusal.place as u64)
+}
+
+fn told(out: &mut [u8; 4096], refusal: Refusal, case: u64, bits: u64) -> usize
+    ensures { λ r. ⌜ r ≤ 4096 ⌝ }
+{
+    let a = put_refusal(out, refusal);
+    let b = vectors::put_byte(out, a, case);
+    let c = vectors::put_word(out, b, bits);
+    vectors::put_end(out, c)
+}
+
+// Case 0 is exact, 1 below, 2 above, 3 refused.
+fn converted(c: Converted, out: &mut [u8; 4096]) -> usize
+    ensures { λ r. ⌜ r ≤ 4096 ⌝ }
+{
+    let none = Refusal { rule: 0, place: 0 };
+    match c {
+        Converted::Exact(d) => told(out, none, 0, bits_of(d)),
+        Converted::Below(d) => told(out, none, 1, bits_of(d)),
+        Converted::Above(d) => told(out, none, 2, bits_of(d)),
+        Converted::Refused(r) => told(out, r, 3, 0),
+    }
+}
+
+fn enclosed(e: Enclosed, out: &mut [u8; 4096]) -> usize
+    ensures { λ r. ⌜ r ≤ 4096 ⌝ }
+{
+    let pair = e.pair;
+    let a = put_refusal(out, e.refusal);
+    let b = vectors::put_word(out, a, bits_of(pair.lower));
+    let c = vectors::put_word(out, b, bits_of(pair.upper));
+    vectors::put_end(out, c)
+}
+
+fn read(f: FromDouble, target: &[u64], out: &mut [u8; 4096]) -> usize
+    ensures { λ r. ⌜ r ≤ 4096 ⌝ }
+{
+    let a = put_refusal(out, f.refusal);
+    let b = vectors::put_number(out, a, f.number);
+    let c = vectors::put_limbs(out, b, target);
+    vectors::put_end(out, c)
+}
+
+// Operation 0 converts under the mode; any other encloses.
+fn run_number(
+    operation: u64,
+    mode: u8,
+    x: Number,
+    xl: &[u64; 80],
+    n: usize,
+    out: &mut [u8; 4096],
+) -> usize
+    requires { ⌜ n ≤ 80 ⌝ }
+    ensures { λ r. ⌜ r ≤ 4096 ⌝ }
+{
+    let xs = &xl[..];
+    if operation == 0 {
+        return converted(doubles::to_double(mode, x, &xs[0..n]), out);
+    }
+    enclosed(doubles::enclose(x, &xs[0..n]), out)
+}
+
+fn run_double(bits: u64, target: &mut [u64], out: &mut [u8; 4096]) -> usize
+    ensures { λ r. ⌜ r ≤ 4096 ⌝ }
+{
+    let f = doubles::from_double(double_of(bits), target);
+    read(f, target, out)
+}
+
+// The same with the first k limbs of the target; no answer where there are not so many.
+fn run_part(bits: u64, target: &mut [u64], k: usize, out: &mut [u8; 4096]) -> usize
+    ensures { λ r. ⌜ r ≤ 4096 ⌝ }
+{
+    if target.len() < k {
+        return 0;
+    }
+    run_double(bits, &mut target[0..k], out)
+}
+
+// After the operation, 2 digits: mode (2) and a number; or for operation 2 a double (16), target limb count (4), fill (2).
+fn run_case(line: &[u8], out: &mut [u8; 4096]) -> usize
+    ensures { λ r. ⌜ r ≤ 4096 ⌝ }
+{
+    let operation = vectors::byte_at(line, 0);
+    if operation == 2 {
+        let mut target = vectors::filled(vectors::byte_at(line, 22));
+        let k = vectors::pair_at(line, 18) as usize;
+        return run_part(vectors::word_at(line, 2), &mut target, k, out);
+    }
+    let mut xl = [0u64; 80];
+    let mode = (vectors::byte_at(line, 2) % 256) as u8;
+    let x = vectors::number_at(line, 4);
+    let n = vectors::limbs_at(line, 32, &mut xl);
+    run_number(operation, mode, x, &xl, n, out)
+}
+
+fn print_case(line: &[u8; 4096], held: usize, out: &mut [u8; 4096])
+    requires { ⌜ held ≤ 4096 ⌝ }
+{
+    let whole = &line[..];
+    let n = run_case(&whole[0..held], out);
+    let told = &out[..];
+    io::write_all(1, &told[0..n]);
+}
+
+// Every line that ends in the chunk; the state after it.
+fn run_chunk(
+    start: vectors::Cutter,
+    chunk: &[u8],
+    line: &mut [u8; 4096],
+    out: &mut [u8; 4096],
+) -> vectors::Cutter {
+    let mut c = vectors::cut(start, chunk, line);
+    let mut turns: u64 = 18446744073709551615;
+    while 0 < turns {
+        turns -= 1;
+        if !c.whole {
+            return c;
+        }
+        print_case(line, c.held, out);
+        c = vectors::cut(c, chunk, line);
+    }
+    c
+}
+
+fn run_all(buf: &mut [u8], line: &mut [u8; 4096], out: &mut [u8; 4096]) {
+    let mut c = vectors::start();
+    let mut turns: u64 = 18446744073709551615;
+    while 0 < turns {
+        let got = io::read_full(0, buf);
+        if got == 0 {
+            return;
+        }
+        c = run_chunk(c, &buf[0..got], line, out);
+        turns -= 1;
+    }
+}
+
+fn main() {
+    let mut buf = io::large_buffer();
+    let mut line = io::buffer();
+    let mut out = io::buffer();
+    run_all(&mut buf, &mut line, &mut out);
+}
