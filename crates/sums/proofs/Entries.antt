@@ -1,0 +1,105 @@
+-- What the checks leave to a sum, and what its cases give to add and re-round. Assumes nothing.
+use mathlib.Core.Path.{_≡_, refl, sym, ap, _∙_, subst}
+use mathlib.Core.Bool.{Bool, true, false, _&&_, true≢false}
+use mathlib.Core.List.{List}
+use Prim.Native.Nat.{ℕ, _^_, _≤_}
+use native.Mathlib.Omega.{arith}
+use lib.ListN.{length}
+use Rattle.limb.specs.Value.{Below}
+use Rattle.numbers.specs.Operand.{Operand, WellFormed, zeroLike}
+use Rattle.numbers.proofs.Limits.{two-digits}
+use Rattle.rounding.specs.Mode.{modeOf}
+use Rattle.depth.specs.Depth.{Operation, plus}
+use Rattle.checks.specs.declared.Number.{Number}
+use Rattle.checks.specs.declared.Refusal.{Refusal}
+use Rattle.checks.specs.Number.{isZeroKind, operandOf}
+use Rattle.checks.specs.Check.{accepted, pairRefusal, singleRefusal}
+use Rattle.checks.proofs.Accepted.{accepted-well-formed, accepted-single, pair-unrefused, single-unrefused}
+use Rattle.sums.specs.declared.report.Sum.{Sum}
+use Rattle.sums.specs.Exchanged.{exchangedSum}
+use Rattle.sums.specs.Ready.{Room}
+use Rattle.sums.specs.Summed.{refusedSum, Reported, Summed, Rerounded}
+use Rattle.sums.proofs.Exchanged.{reported-exchanged}
+
+pub kind-told : (x : Number) (xl : List ℕ) {v b : Bool} → v ≡ isZeroKind (x .kind) → v ≡ b → operandOf x xl .isZero ≡ b
+unfolding operandOf
+kind-told x xl e f = sym e ∙ f
+
+-- a zero and a regular number: the sum of the two in the other order, its counts exchanged
+pub zero-first : (mode p n : ℕ) (x y : Operand) (exit : List ℕ) (s r : Sum) → Room p n → y .isZero ≡ false → r ≡ exchangedSum s
+    → Reported plus (modeOf mode) p y x exit s → Reported plus (modeOf mode) p x y exit r
+zero-first mode p n x y exit s r room b e d =
+    rw e (reported-exchanged (modeOf mode) p (omega (arith, two-digits, room .least)) x y (some (x .isZero) (y .isZero) b) exit s d)
+  where
+    some : (u v : Bool) → v ≡ false → (u && v) ≡ false
+    some true v f = f
+    some false v f = refl
+
+-- a well-formed zero is the zero that re-rounding adds to it
+pub zero-alike : (x : Operand) → WellFormed x → x .isZero ≡ true → x ≡ zeroLike x
+unfolding zeroLike
+zero-alike x g z =
+    ap (λ (b : Bool). record { negative = x .negative; isZero = b; precision = x .precision; exponent = x .exponent; limbs = x .limbs }) z
+    ∙ ap (λ (e : ℕ). record { negative = x .negative; isZero = true; precision = x .precision; exponent = e; limbs = x .limbs }) (g .zero z)
+
+zero-like-formed : (x : Operand) → WellFormed x → WellFormed (zeroLike x)
+unfolding zeroLike
+zero-like-formed x g = record { least = g .least; most = g .most; count = g .count; limb = g .limb; zero = λ z. refl; regular = λ z. absurd (true≢false z) }
+
+module _ (mode : ℕ) (x : Number) (xl : List ℕ) (y : Number) (yl : List ℕ) (p : ℕ) (entry : List ℕ) (r : Refusal) (e : r ≡ pairRefusal mode (operandOf x xl) (operandOf y yl) p (length entry)) where
+  passed : r .rule ≡ 0 → pairRefusal mode (operandOf x xl) (operandOf y yl) p (length entry) ≡ accepted
+  passed h = pair-unrefused mode (operandOf x xl) (operandOf y yl) p (length entry) (rw e at h)
+
+  pub pair-ready : r .rule ≡ 0 → Below (2 ^ 64) xl → Below (2 ^ 64) yl → (mode ≤ 3) × WellFormed (operandOf x xl) × WellFormed (operandOf y yl) × Room p (length entry)
+  unfolding operandOf
+  pair-ready h wx wy =
+      let g = accepted-well-formed mode (operandOf x xl) (operandOf y yl) p (length entry) wx wy (passed h) in
+      (g .mode-small, g .first, g .second, record { least = g .target .least; most = g .target .most; count = g .target .count })
+
+  pub pair-refused : {f : Operation} {s : Sum} → (r .rule ≡ 0 → ⊥) → s ≡ refusedSum r 0 0 0 → Summed f mode x xl y yl p entry entry s
+  unfolding accepted
+  pair-refused h a =
+      record {
+        refused = λ n. record { answer = a ∙ ap (λ (c : Refusal). refusedSum c 0 0 0) e; target = refl };
+        reported = λ k. absurd (h (ap (λ (c : Refusal). c .rule) (e ∙ k)));
+      }
+
+  pub pair-reported : {f : Operation} {exit : List ℕ} {s : Sum} → r .rule ≡ 0 → Reported f (modeOf mode) p (operandOf x xl) (operandOf y yl) exit s → Summed f mode x xl y yl p entry exit s
+  pair-reported h d = record { refused = λ n. absurd (n (passed h)); reported = λ k. d }
+
+module _ (mode : ℕ) (x : Number) (xl : List ℕ) (p : ℕ) (entry : List ℕ) (r : Refusal) (e : r ≡ singleRefusal mode (operandOf x xl) p (length entry)) where
+  passed-single : r .rule ≡ 0 → singleRefusal mode (operandOf x xl) p (length entry) ≡ accepted
+  passed-single h = single-unrefused mode (operandOf x xl) p (length entry) (rw e at h)
+
+  pub single-ready : r .rule ≡ 0 → Below (2 ^ 64) xl → (mode ≤ 3) × WellFormed (operandOf x xl) × Room p (length entry)
+  unfolding operandOf
+  single-ready h w =
+      let g = accepted-single mode (operandOf x xl) p (length entry) w (passed-single h) in
+      (g .mode-small, g .only, record { least = g .target .least; most = g .target .most; count = g .target .count })
+
+  pub single-refused : {s : Sum} → (r .rule ≡ 0 → ⊥) → s ≡ refusedSum r 0 0 0 → Rerounded mode x xl p entry entry s
+  unfolding accepted
+  single-refused h a =
+      record {
+        refused = λ n. record { answer = a ∙ ap (λ (c : Refusal). refusedSum c 0 0 0) e; target = refl };
+        reported = λ k. absurd (h (ap (λ (c : Refusal). c .rule) (e ∙ k)));
+      }
+
+  -- a zero is added to itself
+  pub zero-rerounded : {exit : List ℕ} {s : Sum} → r .rule ≡ 0 → Below (2 ^ 64) xl → operandOf x xl .isZero ≡ true
+      → Reported plus (modeOf mode) p (operandOf x xl) (operandOf x xl) exit s → Rerounded mode x xl p entry exit s
+  zero-rerounded {exit} {s} h w z d =
+      record {
+        refused = λ n. absurd (n (passed-single h));
+        reported = λ k. subst (λ (v : Operand). Reported plus (modeOf mode) p (operandOf x xl) v exit s) (zero-alike (operandOf x xl) (single-ready h w .1) z) d;
+      }
+
+  -- a regular number and any zero
+  pub regular-rerounded : {exit : List ℕ} {s : Sum} → r .rule ≡ 0 → Below (2 ^ 64) xl
+      → ((z : Operand) → WellFormed z → z .isZero ≡ true → Reported plus (modeOf mode) p (operandOf x xl) z exit s) → Rerounded mode x xl p entry exit s
+  unfolding zeroLike
+  regular-rerounded h w d =
+      record {
+        refused = λ n. absurd (n (passed-single h));
+        reported = λ k. d (zeroLike (operandOf x xl)) (zero-like-formed (operandOf x xl) (single-ready h w .1)) refl;
+      }

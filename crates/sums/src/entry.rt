@@ -1,0 +1,101 @@
+// Add, subtract, re-round.
+ghost use mathlib.Core.Path.{_≡_};
+ghost use mathlib.Core.Bool.{true, false, _&&_};
+ghost use Prim.Native.Nat.{ℕ, _≤_};
+ghost use mathlib.Core.List.{List};
+ghost use lib.ListN.{length};
+ghost use Rattle.numbers.specs.Operand.{Operand, WellFormed};
+ghost use Rattle.rounding.specs.Mode.{modeOf};
+ghost use Rattle.rounding.specs.Sum.{zeroSign};
+ghost use Rattle.depth.specs.Depth.{plus, minus};
+ghost use Rattle.checks.specs.Number.{operandOf};
+ghost use Rattle.sums.specs.Summed.{Reported, Summed, Rerounded};
+ghost use Rattle.sums.specs.Ready.{Room};
+use crate::regular::both;
+use crate::regular::single;
+use crate::report::Sum;
+use crate::report::exchanged;
+use crate::report::refused;
+use crate::report::zero;
+use checks::Number;
+
+// The sign of a zero sum: one sign stays, and of two it is plus.
+fn zero_sign(mode: u8, a: bool, b: bool) -> bool
+    ensures { λ r. ⌜ r ≡ zeroSign (modeOf mode) a b ⌝ }
+{
+    if a == b { a } else { false }
+}
+
+// Two zeros: nothing is read.
+fn zeros(mode: u8, x: Number, y: Number, p: u64, target: &mut [u64]) -> Sum
+    requires { ⌜ Room p (length (now target)) ⌝ }
+    ensures { λ r. ⌜ ((xl yl : List ℕ) → operandOf x xl .isZero ≡ true → operandOf y yl .isZero ≡ true → Reported plus (modeOf mode) p (operandOf x xl) (operandOf y yl) (now (target .exit)) r) ⌝ }
+{
+    run::clear(target);
+    zero(zero_sign(mode, x.negative, y.negative), p, 0, 0, 0)
+}
+
+// Where checks 1 to 5 pass.
+fn summed(mode: u8, x: Number, xl: &[u64], y: Number, yl: &[u64], p: u64, target: &mut [u64]) -> Sum
+    requires { ⌜ (mode ≤ 3) × WellFormed (operandOf x (now xl)) × WellFormed (operandOf y (now yl)) × Room p (length (now target)) ⌝ }
+    ensures { λ r. ⌜ Reported plus (modeOf mode) p (operandOf x (now (xl .entry))) (operandOf y (now (yl .entry))) (now (target .exit)) r ⌝ }
+{
+    if checks::is_zero(x) {
+        if checks::is_zero(y) {
+            return zeros(mode, x, y, p, target);
+        }
+        return exchanged(single(mode, y, yl, p, target));
+    }
+    if checks::is_zero(y) {
+        return single(mode, x, xl, p, target);
+    }
+    both(mode, x, xl, y, yl, p, target)
+}
+
+// x + y, rounded to p digits.
+pub fn add(
+    mode: u8,
+    x: Number,
+    xl: &[u64],
+    y: Number,
+    yl: &[u64],
+    p: u64,
+    target: &mut [u64],
+) -> Sum
+    ensures { λ r. ⌜ Summed plus mode x (now (xl .entry)) y (now (yl .entry)) p (now (target .entry)) (now (target .exit)) r ⌝ }
+{
+    let refusal = checks::check_pair(mode, x, xl, y, yl, p, target.len());
+    if refusal.rule != 0 {
+        return refused(refusal, 0, 0, 0);
+    }
+    summed(mode, x, xl, y, yl, p, target)
+}
+
+// x - y, rounded to p digits: the sum with the second sign turned.
+pub fn subtract(
+    mode: u8,
+    x: Number,
+    xl: &[u64],
+    y: Number,
+    yl: &[u64],
+    p: u64,
+    target: &mut [u64],
+) -> Sum
+    ensures { λ r. ⌜ Summed minus mode x (now (xl .entry)) y (now (yl .entry)) p (now (target .entry)) (now (target .exit)) r ⌝ }
+{
+    add(mode, x, xl, checks::turn_sign(y), yl, p, target)
+}
+
+// x alone, rounded to p digits: reports as the addition of a zero.
+pub fn reround(mode: u8, x: Number, xl: &[u64], p: u64, target: &mut [u64]) -> Sum
+    ensures { λ r. ⌜ Rerounded mode x (now (xl .entry)) p (now (target .entry)) (now (target .exit)) r ⌝ }
+{
+    let refusal = checks::check_single(mode, x, xl, p, target.len());
+    if refusal.rule != 0 {
+        return refused(refusal, 0, 0, 0);
+    }
+    if checks::is_zero(x) {
+        return zeros(mode, x, x, p, target);
+    }
+    single(mode, x, xl, p, target)
+}

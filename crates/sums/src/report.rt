@@ -1,0 +1,77 @@
+// What a sum reports.
+ghost use mathlib.Core.Path.{_≡_};
+ghost use lib.ListN.{length, replicate};
+ghost use Rattle.checks.specs.Check.{accepted};
+ghost use Rattle.rounding.specs.Answer.{zeroOf};
+ghost use Rattle.sums.specs.Summed.{refusedSum, sumOf};
+ghost use Rattle.sums.specs.Exchanged.{exchangedSum};
+use checks::Kind;
+use checks::Number;
+use checks::Refusal;
+
+// The number, the ternary value, the depth, the limbs used of the first operand and of the second, and the refusal.
+pub struct Sum {
+    pub number: Number,
+    pub ternary: i8,
+    pub depth: u64,
+    pub first: u64,
+    pub second: u64,
+    pub refusal: Refusal,
+}
+
+// A refused sum: +0 of precision 2.
+pub fn refused(refusal: Refusal, depth: u64, first: u64, second: u64) -> Sum
+    ensures { λ r. ⌜ r ≡ refusedSum refusal depth first second ⌝ }
+{
+    let nothing = Number {
+        negative: false,
+        kind: Kind::Zero,
+        precision: 2,
+        exponent: 0,
+    };
+    Sum {
+        number: nothing,
+        ternary: 0,
+        depth: depth,
+        first: first,
+        second: second,
+        refusal: refusal,
+    }
+}
+
+// A zero.
+pub fn zero(negative: bool, p: u64, depth: u64, first: u64, second: u64) -> Sum
+    ensures { λ r. ⌜ r ≡ sumOf (zeroOf negative) p depth first second ⌝ }
+{
+    let number = Number {
+        negative: negative,
+        kind: Kind::Zero,
+        precision: p,
+        exponent: 0,
+    };
+    let none = Refusal { rule: 0, place: 0 };
+    Sum {
+        number: number,
+        ternary: 0,
+        depth: depth,
+        first: first,
+        second: second,
+        refusal: none,
+    }
+}
+
+// The same sum with its operands exchanged.
+pub fn exchanged(s: Sum) -> Sum
+    ensures { λ r. ⌜ r ≡ exchangedSum s ⌝ }
+{
+    let number = s.number;
+    let refusal = s.refusal;
+    Sum {
+        number: number,
+        ternary: s.ternary,
+        depth: s.depth,
+        first: s.second,
+        second: s.first,
+        refusal: refusal,
+    }
+}
