@@ -12,16 +12,11 @@ use Rattle.numbers.specs.Limits.{leastPrecision, mostPrecision, bias, leastExpo
 use Rattle.numbers.specs.Operand.{Operand, spareBits, WellFormed}
 use Rattle.numbers.proofs.Limits.{two-digits, limbs-hold}
 use Rattle.checks.specs.Check.{accepted, modeHolds, precisionHolds, lengthHolds, exponentHolds, topBitHolds, spareBitsHold, formHolds, pairRefusal, singleRefusal, comparedRefusal, convertedRefusal, aloneRefusal}
-use Rattle.checks.proofs.Tables.{all-accepted, accepted-all, unrefused-accepted, both}
+use Rattle.checks.specs.Judged.{TargetPasses, Passes}
+use Rattle.checks.proofs.Tables.{accepted-all, unrefused-accepted, both}
+use Rattle.checks.proofs.Passing.{pair-passes, single-passes, compared-passes, converted-passes, alone-passes}
 use Rattle.checks.proofs.Tests.{spare-lt}
 use Rattle.checks.proofs.Form.{top-bit-lead, lead-top-bit, spare-low}
-
--- tests 2 to 5 hold for an operand
-pub record Passes (x : Operand) : Type 0 where
-  pub precision : precisionHolds (x .precision) ≡ true
-  pub limbs : lengthHolds (x .precision) (length (x .limbs)) ≡ true
-  pub exponent : exponentHolds x ≡ true
-  pub form : formHolds x ≡ true
 
 pub mode-range : (mode : ℕ) → modeHolds mode ≡ true → mode ≤ 3
 unfolding modeHolds
@@ -115,6 +110,9 @@ pub record TargetFits (p n : ℕ) : Type 0 where
   pub most : p ≤ mostPrecision
   pub count : n ≡ limbsFor p
 
+pub target-passes : (p n : ℕ) → TargetFits p n → TargetPasses p n
+target-passes p n g = record { precision = range-precision p (g .least) (g .most); limbs = count-length p n (g .count) }
+
 module _ (mode : ℕ) (x y : Operand) (p n : ℕ) where
   pub record PairFits : Type 0 where
     pub mode-small : mode ≤ 3
@@ -134,13 +132,7 @@ module _ (mode : ℕ) (x y : Operand) (p n : ℕ) where
       }
 
   pub well-formed-accepted : PairFits → pairRefusal mode x y p n ≡ accepted
-  unfolding pairRefusal
-  well-formed-accepted g =
-      let a = well-formed-passes x (g .first) in
-      let b = well-formed-passes y (g .second) in
-      let t = range-precision p (g .target .least) (g .target .most) in
-      let c = count-length p n (g .target .count) in
-      all-accepted _ (range-mode mode (g .mode-small), (a .precision, (b .precision, (t, (a .limbs, (b .limbs, (c, (a .exponent, (b .exponent, (a .form, (b .form, tt)))))))))))
+  well-formed-accepted g = pair-passes mode x y p n (range-mode mode (g .mode-small)) (well-formed-passes x (g .first)) (well-formed-passes y (g .second)) (target-passes p n (g .target))
 
 module _ (mode : ℕ) (x : Operand) (p n : ℕ) where
   pub record SingleFits : Type 0 where
@@ -159,10 +151,7 @@ module _ (mode : ℕ) (x : Operand) (p n : ℕ) where
       }
 
   pub single-accepted : SingleFits → singleRefusal mode x p n ≡ accepted
-  unfolding singleRefusal
-  single-accepted g =
-      let a = well-formed-passes x (g .only) in
-      all-accepted _ (range-mode mode (g .mode-small), (a .precision, (range-precision p (g .target .least) (g .target .most), (a .limbs, (count-length p n (g .target .count), (a .exponent, (a .form, tt)))))))
+  single-accepted g = single-passes mode x p n (range-mode mode (g .mode-small)) (well-formed-passes x (g .only)) (target-passes p n (g .target))
 
 module _ (x y : Operand) where
   pub accepted-compared : Below (2 ^ 64) (x .limbs) → Below (2 ^ 64) (y .limbs) → comparedRefusal x y ≡ accepted → WellFormed x × WellFormed y
@@ -174,11 +163,7 @@ module _ (x y : Operand) where
       )
 
   pub compared-accepted : WellFormed x → WellFormed y → comparedRefusal x y ≡ accepted
-  unfolding comparedRefusal
-  compared-accepted g h =
-      let a = well-formed-passes x g in
-      let b = well-formed-passes y h in
-      all-accepted _ (a .precision, (b .precision, (a .limbs, (b .limbs, (a .exponent, (b .exponent, (a .form, (b .form, tt))))))))
+  compared-accepted g h = compared-passes x y (well-formed-passes x g) (well-formed-passes y h)
 
 module _ (mode : ℕ) (x : Operand) where
   pub accepted-converted : Below (2 ^ 64) (x .limbs) → convertedRefusal mode x ≡ accepted → (mode ≤ 3) × WellFormed x
@@ -188,10 +173,7 @@ module _ (mode : ℕ) (x : Operand) where
       (mode-range mode (h .0), passes-well-formed x w (record { precision = h .1 .0; limbs = h .1 .1 .0; exponent = h .1 .1 .1 .0; form = h .1 .1 .1 .1 .0 }))
 
   pub converted-accepted : mode ≤ 3 → WellFormed x → convertedRefusal mode x ≡ accepted
-  unfolding convertedRefusal
-  converted-accepted m g =
-      let a = well-formed-passes x g in
-      all-accepted _ (range-mode mode m, (a .precision, (a .limbs, (a .exponent, (a .form, tt)))))
+  converted-accepted m g = converted-passes mode x (range-mode mode m) (well-formed-passes x g)
 
 module _ (x : Operand) where
   pub accepted-alone : Below (2 ^ 64) (x .limbs) → aloneRefusal x ≡ accepted → WellFormed x
@@ -201,10 +183,7 @@ module _ (x : Operand) where
       passes-well-formed x w (record { precision = h .0; limbs = h .1 .0; exponent = h .1 .1 .0; form = h .1 .1 .1 .0 })
 
   pub alone-accepted : WellFormed x → aloneRefusal x ≡ accepted
-  unfolding aloneRefusal
-  alone-accepted g =
-      let a = well-formed-passes x g in
-      all-accepted _ (a .precision, (a .limbs, (a .exponent, (a .form, tt))))
+  alone-accepted g = alone-passes x (well-formed-passes x g)
 
 -- ---- a caller looks at the refusal's number: where it is 0, nothing is refused
 

@@ -3,4 +3,5 @@ pub mod Places
 pub mod Tests
 pub mod Tables
 pub mod Form
+pub mod Passing
 pub mod Accepted

@@ -4,11 +4,12 @@ use mathlib.Core.Bool.{Bool, true, false, cond}
 use mathlib.Core.List.{List, [], _∷_}
 use Prim.Native.Nat.{ℕ}
 use lib.Dec.{eqb, leb}
+use lib.ListN.{length}
 use Rattle.numbers.specs.Operand.{Operand}
 use Rattle.checks.specs.declared.Judged.{Judged}
 use Rattle.checks.specs.declared.Refusal.{Refusal}
 use Rattle.checks.specs.Check.{Test, test, accepted, firstRefusal, modeHolds, pairRefusal, singleRefusal, comparedRefusal, convertedRefusal, aloneRefusal}
-use Rattle.checks.specs.Judged.{judgedOf, judgedTarget, absentHolds, firstPlace, refusalOf}
+use Rattle.checks.specs.Judged.{judgedOf, judgedTarget, firstPlace, refusalOf}
 
 -- a rule that holds in all places is passed; else its first place is named
 abbrev pub ruled : ℕ → ℕ → Refusal → Refusal
@@ -48,18 +49,28 @@ pub pair-refusal : {a b t : Judged} {r : Refusal} (mode : ℕ) (x y : Operand) (
 unfolding pairRefusal refusalOf judgedOf judgedTarget modeHolds
 pair-refusal mode x y p n h i j k = h ∙ rw (i, j, k)
 
-pub single-refusal : {a b t : Judged} {r : Refusal} (mode : ℕ) (x : Operand) (p n : ℕ) → r ≡ refusalOf (leb mode 3) a b t → a ≡ judgedOf x → b ≡ absentHolds → t ≡ judgedTarget p n → r ≡ singleRefusal mode x p n
-unfolding singleRefusal refusalOf judgedOf judgedTarget absentHolds modeHolds firstRefusal
-single-refusal mode x p n h i j k = h ∙ rw (i, j, k)
+-- a test that was passed is passed again
+again : (a : Bool) (r s t : Refusal) → cond a (cond a r s) t ≡ cond a r t
+again true r s t = refl
+again false r s t = refl
 
-pub compared-refusal : {a b t : Judged} {r : Refusal} (x y : Operand) → r ≡ refusalOf true a b t → a ≡ judgedOf x → b ≡ judgedOf y → t ≡ absentHolds → r ≡ comparedRefusal x y
-unfolding comparedRefusal refusalOf judgedOf absentHolds firstRefusal
-compared-refusal x y h i j k = h ∙ rw (i, j, k)
+later : (a b : Bool) (r s t u : Refusal) → cond a (cond b (cond a r s) t) u ≡ cond a (cond b r t) u
+later true b r s t u = refl
+later false b r s t u = refl
 
-pub converted-refusal : {a b t : Judged} {r : Refusal} (mode : ℕ) (x : Operand) → r ≡ refusalOf (leb mode 3) a b t → a ≡ judgedOf x → b ≡ absentHolds → t ≡ absentHolds → r ≡ convertedRefusal mode x
-unfolding convertedRefusal refusalOf judgedOf absentHolds modeHolds firstRefusal
-converted-refusal mode x h i j k = h ∙ rw (i, j, k)
+-- the first operand in the place of the second, or of the target, breaks no rule there that it did not break in its own place
+pub pair-single : (mode : ℕ) (x : Operand) (p n : ℕ) → pairRefusal mode x x p n ≡ singleRefusal mode x p n
+unfolding pairRefusal singleRefusal firstRefusal
+pair-single mode x p n = simp again
 
-pub alone-refusal : {a b t : Judged} {r : Refusal} (x : Operand) → r ≡ refusalOf true a b t → a ≡ judgedOf x → b ≡ absentHolds → t ≡ absentHolds → r ≡ aloneRefusal x
-unfolding aloneRefusal refusalOf judgedOf absentHolds firstRefusal
-alone-refusal x h i j k = h ∙ rw (i, j, k)
+pub pair-compared : (x y : Operand) → pairRefusal 0 x y (x .precision) (length (x .limbs)) ≡ comparedRefusal x y
+unfolding pairRefusal comparedRefusal modeHolds firstRefusal
+pair-compared x y = simp later
+
+pub pair-converted : (mode : ℕ) (x : Operand) → pairRefusal mode x x (x .precision) (length (x .limbs)) ≡ convertedRefusal mode x
+unfolding pairRefusal convertedRefusal firstRefusal
+pair-converted mode x = simp again
+
+pub pair-alone : (x : Operand) → pairRefusal 0 x x (x .precision) (length (x .limbs)) ≡ aloneRefusal x
+unfolding pairRefusal aloneRefusal modeHolds firstRefusal
+pair-alone x = simp again

@@ -1,4 +1,5 @@
 -- The tests of one operand or target at once, and the first place of a rule where one fails. Definitions only.
+use mathlib.Core.Path.{_≡_}
 use Prim.Native.Nat.{ℕ}
 use mathlib.Core.Bool.{Bool, true, cond}
 use mathlib.Core.List.{[], _∷_}
@@ -15,10 +16,6 @@ judgedOf x = record { precision = precisionHolds (x .precision); limbs = lengthH
 -- a target has no exponent and no digits yet
 unfoldable pub judgedTarget : ℕ → ℕ → Judged
 judgedTarget p n = record { precision = precisionHolds p; limbs = lengthHolds p n; exponent = true; form = true }
-
--- an operand or a target that a call does not have
-unfoldable pub absentHolds : Judged
-absentHolds = record { precision = true; limbs = true; exponent = true; form = true }
 
 -- "(same order)": first 1, second 2, target 3; 0 where all three hold
 unfoldable pub firstPlace : Bool → Bool → Bool → ℕ
@@ -40,3 +37,14 @@ refusalOf mode x y t =
     ∷ test (x .form) 5 1
     ∷ test (y .form) 5 2
     ∷ [])
+
+-- tests 2 and 3 hold for a target, and tests 2 to 5 for an operand
+pub record TargetPasses (p n : ℕ) : Type 0 where
+  pub precision : precisionHolds p ≡ true
+  pub limbs : lengthHolds p n ≡ true
+
+pub record Passes (x : Operand) : Type 0 where
+  pub precision : precisionHolds (x .precision) ≡ true
+  pub limbs : lengthHolds (x .precision) (length (x .limbs)) ≡ true
+  pub exponent : exponentHolds x ≡ true
+  pub form : formHolds x ≡ true

@@ -1,25 +1,26 @@
--- `checks::check_alone`: the tests of the definition, in its order. Assumes nothing.
+-- `checks::check_alone`: the quick tests find nothing to refuse, or the ordered tests say what. Assumes nothing.
+use mathlib.Core.Path.{sym, _∙_}
+use Rattle.checks.specs.Number.{operandOf}
+use Rattle.checks.specs.Check.{accepted}
+use Rattle.checks.proofs.Places.{pair-alone}
+use Rattle.checks.proofs.Passing.{alone-passes}
 use borrow.Author.Needs.{needs}
-use Rattle.checks.proofs.Places.{alone-refusal}
 use Rattle.checks.proofs.check_alone.Statement.{statement}
 use Rattle.checks.proofs.check_alone.Tie as tie
 
-judge-requires : tie.Need-judge-requires
-judge-requires c κs = search needs
-
-absent-requires : tie.Need-absent-requires
-absent-requires c κs = search needs
-
-absent-requires-2 : tie.Need-absent-requires-2
-absent-requires-2 c κs = search needs
-
-first-refusal-requires : tie.Need-first-refusal-requires
-first-refusal-requires c κs = search needs
+passes-requires : tie.Need-passes-requires
+passes-requires c κs = search needs
 
 returns : tie.Need-returns
-returns c = alone-refusal _ (c .first-refusal .ensures) (c .before .before .before .judge .ensures) (c .before .before .absent .ensures) (c .before .absent2 .ensures)
+unfolding accepted
+returns c = sym (alone-passes _ (c .before .passes .ensures (c .if1 .taken)))
+
+refuse-operands-requires : tie.Need-refuse-operands-requires
+refuse-operands-requires c κs = search needs
+
+returns-2 : tie.Need-returns-2
+unfolding operandOf
+returns-2 c = c .refuse-operands .ensures ∙ pair-alone _
 
 pub check-alone-spec : {M : Type 1} → statement M
-check-alone-spec =
-    tie.close
-    (tie.spec judge-requires absent-requires absent-requires-2 first-refusal-requires returns)
+check-alone-spec = tie.close (tie.spec passes-requires returns refuse-operands-requires returns-2)

@@ -1,25 +1,27 @@
--- `checks::check_compared`: the tests of the definition, in its order. Assumes nothing.
+-- `checks::check_compared`: the quick tests find nothing to refuse, or the ordered tests say what. Assumes nothing.
+use mathlib.Core.Path.{sym, _∙_}
+use Rattle.checks.specs.Number.{operandOf}
+use Rattle.checks.specs.Check.{accepted}
+use Rattle.checks.proofs.Places.{pair-compared}
+use Rattle.checks.proofs.Passing.{compared-passes}
 use borrow.Author.Needs.{needs}
-use Rattle.checks.proofs.Places.{compared-refusal}
 use Rattle.checks.proofs.check_compared.Statement.{statement}
 use Rattle.checks.proofs.check_compared.Tie as tie
 
-judge-requires : tie.Need-judge-requires
-judge-requires c κs = search needs
-
-judge-requires-2 : tie.Need-judge-requires-2
-judge-requires-2 c κs = search needs
-
-absent-requires : tie.Need-absent-requires
-absent-requires c κs = search needs
-
-first-refusal-requires : tie.Need-first-refusal-requires
-first-refusal-requires c κs = search needs
+both-pass-requires : tie.Need-both-pass-requires
+both-pass-requires c κs = search needs
 
 returns : tie.Need-returns
-returns c = compared-refusal _ _ (c .first-refusal .ensures) (c .before .before .before .judge .ensures) (c .before .before .judge2 .ensures) (c .before .absent .ensures)
+unfolding accepted
+returns c = let b = c .before .both-pass .ensures (c .if1 .taken) in sym (compared-passes _ _ (b .0) (b .1))
+
+refuse-operands-requires : tie.Need-refuse-operands-requires
+refuse-operands-requires c κs = search needs
+
+returns-2 : tie.Need-returns-2
+unfolding operandOf
+returns-2 c = c .refuse-operands .ensures ∙ pair-compared _ _
 
 pub check-compared-spec : {M : Type 1} → statement M
 check-compared-spec =
-    tie.close
-    (tie.spec judge-requires judge-requires-2 absent-requires first-refusal-requires returns)
+    tie.close (tie.spec both-pass-requires returns refuse-operands-requires returns-2)

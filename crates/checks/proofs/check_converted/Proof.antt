@@ -1,25 +1,27 @@
--- `checks::check_converted`: the tests of the definition, in its order. Assumes nothing.
+-- `checks::check_converted`: the quick tests find nothing to refuse, or the ordered tests say what. Assumes nothing.
+use mathlib.Core.Path.{sym, _∙_}
+use Rattle.checks.specs.Number.{operandOf}
+use Rattle.checks.specs.Check.{accepted}
+use Rattle.checks.proofs.Places.{pair-converted}
+use Rattle.checks.proofs.Passing.{converted-passes}
 use borrow.Author.Needs.{needs}
-use Rattle.checks.proofs.Places.{converted-refusal}
 use Rattle.checks.proofs.check_converted.Statement.{statement}
 use Rattle.checks.proofs.check_converted.Tie as tie
 
-judge-requires : tie.Need-judge-requires
-judge-requires c κs = search needs
-
-absent-requires : tie.Need-absent-requires
-absent-requires c κs = search needs
-
-absent-requires-2 : tie.Need-absent-requires-2
-absent-requires-2 c κs = search needs
-
-first-refusal-requires : tie.Need-first-refusal-requires
-first-refusal-requires c κs = search needs
+one-passes-requires : tie.Need-one-passes-requires
+one-passes-requires c κs = search needs
 
 returns : tie.Need-returns
-returns c = converted-refusal _ _ (c .first-refusal .ensures) (c .before .before .before .judge .ensures) (c .before .before .absent .ensures) (c .before .absent2 .ensures)
+unfolding accepted
+returns c = let b = c .before .one-passes .ensures (c .if1 .taken) in sym (converted-passes _ _ (b .0) (b .1))
+
+refuse-operands-requires : tie.Need-refuse-operands-requires
+refuse-operands-requires c κs = search needs
+
+returns-2 : tie.Need-returns-2
+unfolding operandOf
+returns-2 c = c .refuse-operands .ensures ∙ pair-converted _ _
 
 pub check-converted-spec : {M : Type 1} → statement M
 check-converted-spec =
-    tie.close
-    (tie.spec judge-requires absent-requires absent-requires-2 first-refusal-requires returns)
+    tie.close (tie.spec one-passes-requires returns refuse-operands-requires returns-2)

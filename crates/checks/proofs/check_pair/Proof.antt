@@ -1,25 +1,22 @@
--- `checks::check_pair`: the tests of the definition, in its order. Assumes nothing.
+-- `checks::check_pair`: the quick tests find nothing to refuse, or the ordered tests say what. Assumes nothing.
+use mathlib.Core.Path.{sym}
+use Rattle.checks.specs.Check.{accepted}
 use borrow.Author.Needs.{needs}
-use Rattle.checks.proofs.Places.{pair-refusal}
 use Rattle.checks.proofs.check_pair.Statement.{statement}
 use Rattle.checks.proofs.check_pair.Tie as tie
 
-judge-requires : tie.Need-judge-requires
-judge-requires c κs = search needs
-
-judge-requires-2 : tie.Need-judge-requires-2
-judge-requires-2 c κs = search needs
-
-judge-target-requires : tie.Need-judge-target-requires
-judge-target-requires c κs = search needs
-
-first-refusal-requires : tie.Need-first-refusal-requires
-first-refusal-requires c κs = search needs
+pair-passes-requires : tie.Need-pair-passes-requires
+pair-passes-requires c κs = search needs
 
 returns : tie.Need-returns
-returns c = pair-refusal _ _ _ _ _ (c .first-refusal .ensures) (c .before .before .judge .ensures) (c .before .judge2 .ensures) (c .before .before .before .judge-target .ensures)
+unfolding accepted
+returns c = sym (c .before .pair-passes .ensures (c .if1 .taken))
+
+refuse-requires : tie.Need-refuse-requires
+refuse-requires c κs = search needs
+
+returns-2 : tie.Need-returns-2
+returns-2 c = search needs
 
 pub check-pair-spec : {M : Type 1} → statement M
-check-pair-spec =
-    tie.close
-    (tie.spec judge-target-requires judge-requires judge-requires-2 first-refusal-requires returns)
+check-pair-spec = tie.close (tie.spec pair-passes-requires returns refuse-requires returns-2)

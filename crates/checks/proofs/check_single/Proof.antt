@@ -1,25 +1,23 @@
--- `checks::check_single`: the tests of the definition, in its order. Assumes nothing.
+-- `checks::check_single`: the quick tests find nothing to refuse, or the ordered tests say what. Assumes nothing.
+use mathlib.Core.Path.{sym, _∙_}
+use Rattle.checks.specs.Check.{accepted}
+use Rattle.checks.proofs.Places.{pair-single}
 use borrow.Author.Needs.{needs}
-use Rattle.checks.proofs.Places.{single-refusal}
 use Rattle.checks.proofs.check_single.Statement.{statement}
 use Rattle.checks.proofs.check_single.Tie as tie
 
-judge-requires : tie.Need-judge-requires
-judge-requires c κs = search needs
-
-absent-requires : tie.Need-absent-requires
-absent-requires c κs = search needs
-
-judge-target-requires : tie.Need-judge-target-requires
-judge-target-requires c κs = search needs
-
-first-refusal-requires : tie.Need-first-refusal-requires
-first-refusal-requires c κs = search needs
+single-passes-requires : tie.Need-single-passes-requires
+single-passes-requires c κs = search needs
 
 returns : tie.Need-returns
-returns c = single-refusal _ _ _ _ (c .first-refusal .ensures) (c .before .before .judge .ensures) (c .before .absent .ensures) (c .before .before .before .judge-target .ensures)
+unfolding accepted
+returns c = sym (c .before .single-passes .ensures (c .if1 .taken))
+
+refuse-requires : tie.Need-refuse-requires
+refuse-requires c κs = search needs
+
+returns-2 : tie.Need-returns-2
+returns-2 c = c .refuse .ensures ∙ pair-single _ _ _ _
 
 pub check-single-spec : {M : Type 1} → statement M
-check-single-spec =
-    tie.close
-    (tie.spec judge-target-requires judge-requires absent-requires first-refusal-requires returns)
+check-single-spec = tie.close (tie.spec single-passes-requires returns refuse-requires returns-2)
