@@ -22,7 +22,7 @@ pub fn select(mode: u8, x: Number, xl: &[u64]) -> Selected
     let a = leading(xl, x.precision);
     let unit = checks::counted_exponent(x.exponent) - 128;
     let mut target = [a.top];
-    let placed = place::round_run(
+    let placed = place::round_fit(
         x.negative,
         false,
         &mut target,

@@ -1,6 +1,6 @@
 -- Laws of the modes: which of them go away from zero, and what each makes of a location. Assumes nothing.
 use mathlib.Core.Path.{_≡_, refl}
-use mathlib.Core.Bool.{Bool, true, false, not}
+use mathlib.Core.Bool.{Bool, true, false, not, true≢false, false≢true}
 use Prim.Native.Nat.{ℕ, zero, suc, _≤_, _<_}
 use native.Mathlib.Omega.{arith}
 use lib.IntN.{pos}
@@ -66,6 +66,21 @@ off-up over Exact odd h o = absurd o
 off-up over Lower odd h o = refl
 off-up over Tie odd h o = refl
 off-up over Upper odd h o = refl
+
+-- only what is exact stays where every rest goes out
+pub left-off : (at : Location) → goesUp over at false ≡ true → Off at
+unfolding goesUp
+left-off Exact h = false≢true h
+left-off Lower h = tt
+left-off Tie h = tt
+left-off Upper h = tt
+
+pub none-exact : (at : Location) → goesUp over at false ≡ false → at ≡ Exact
+unfolding goesUp
+none-exact Exact h = refl
+none-exact Lower h = absurd (true≢false h)
+none-exact Tie h = absurd (true≢false h)
+none-exact Upper h = absurd (true≢false h)
 
 -- ---- the ternary value
 

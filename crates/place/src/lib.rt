@@ -39,8 +39,8 @@ pub enum Location {
     Upper,
 }
 
-// Rounds a run that the rules let pass.
-fn place(
+// Rounds a run that rules 2 to 5 let pass, as `round_run` does: for a caller that knows so.
+pub fn round_fit(
     negative: bool,
     carry: bool,
     target: &mut [u64],
@@ -91,5 +91,5 @@ pub fn round_run(
             ternary: 0,
         };
     }
-    place(negative, carry, target, guard, more, unit, precision, mode)
+    round_fit(negative, carry, target, guard, more, unit, precision, mode)
 }

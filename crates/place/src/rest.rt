@@ -1,8 +1,9 @@
 // Where the part below the last kept digit lies, and what each mode makes of it.
 ghost use mathlib.Core.Path.{_≡_};
+ghost use mathlib.Core.Bool.{false};
 ghost use Prim.Native.Nat.{_+_, _*_, _%_, _^_, _≤_, _<_};
 ghost use Rattle.limb.specs.Carry.{bit};
-ghost use Rattle.rounding.specs.Mode.{modeOf, way};
+ghost use Rattle.rounding.specs.Mode.{over, modeOf, way};
 ghost use Rattle.rounding.specs.Answer.{signed};
 ghost use Rattle.place.specs.Placed.{ternaryOf};
 ghost use Rattle.place.specs.Location.{locationOf, goesOut, goesUp, inexact, side};
@@ -47,6 +48,18 @@ pub fn locate(low: u64, guard: u64, width: u64, more: bool) -> Location
     }
 }
 
+// Whether anything is left: whether a way away from zero adds the last unit.
+fn is_off(at: Location) -> bool
+    ensures { λ r. ⌜ r ≡ goesUp over at false ⌝ }
+{
+    match at {
+        Location::Exact => false,
+        Location::Lower => true,
+        Location::Tie => true,
+        Location::Upper => true,
+    }
+}
+
 // Whether a mode takes what is not exact away from zero, nearest apart.
 fn goes_out(mode: u8, negative: bool) -> bool
     ensures { λ r. ⌜ r ≡ goesOut (way (modeOf mode) negative) ⌝ }
@@ -72,12 +85,10 @@ pub fn rounds_up(mode: u8, negative: bool, at: Location, odd: bool) -> bool
             Location::Upper => true,
         };
     }
-    match at {
-        Location::Exact => false,
-        Location::Lower => goes_out(mode, negative),
-        Location::Tie => goes_out(mode, negative),
-        Location::Upper => goes_out(mode, negative),
+    if !is_off(at) {
+        return false;
     }
+    goes_out(mode, negative)
 }
 
 // The ternary value of what is not exact.
@@ -100,10 +111,8 @@ fn leaning(negative: bool, up: bool) -> i8
 pub fn ternary(negative: bool, at: Location, up: bool) -> i8
     ensures { λ r. ⌜ r ≡ ternaryOf (signed negative (side at up)) ⌝ }
 {
-    match at {
-        Location::Exact => 0,
-        Location::Lower => leaning(negative, up),
-        Location::Tie => leaning(negative, up),
-        Location::Upper => leaning(negative, up),
+    if !is_off(at) {
+        return 0;
     }
+    leaning(negative, up)
 }

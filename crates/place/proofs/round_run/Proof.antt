@@ -1,4 +1,4 @@
--- `place::round_run` is right since the rules decide whether the run is rounded, and `place` rounds it. Assumes nothing.
+-- `place::round_run` is right since the rules decide whether the run is rounded, and `round_fit` rounds it. Assumes nothing.
 use mathlib.Core.Path.{sym}
 use Rattle.place.specs.Rounded.{refusedBy}
 use Rattle.place.proofs.Answer.{placed-refused, limbs-refused}
@@ -22,8 +22,8 @@ returns c =
       sym (limbs-refused (g .mode) (g .precision) (g .negative) (g .unit) (g .carry) (g .target .now) (g .guard) (g .more) rule e (c .if1 .taken)),
     )
 
-place-requires : tie.Need-place-requires
-place-requires c κs = search needs
+round-fit-requires : tie.Need-round-fit-requires
+round-fit-requires c κs = search needs
 
 same-length-2 : tie.Need-same-length-2
 same-length-2 c = search needs
@@ -34,4 +34,4 @@ returns-2 c = search needs
 pub round-run-spec : {M : Type 1} → statement M
 round-run-spec =
     tie.close
-    (tie.spec run-rule-requires same-length returns place-requires same-length-2 returns-2)
+    (tie.spec run-rule-requires same-length returns round-fit-requires same-length-2 returns-2)

@@ -1,11 +1,11 @@
 -- `doubles::select::select`: below two limbs only whether something stands there counts, so the run answers as the number does. Assumes nothing.
-use mathlib.Core.Path.{_≡_}
+use mathlib.Core.Path.{_≡_, sym}
 use Prim.Native.Nat.{_≤_}
 use native.Mathlib.Omega.{arith}
 use mir.Facts.{toZ-ofZ}
 use Rattle.numbers.specs.Limits.{counted}
 use Rattle.checks.specs.Number.{operandOf}
-use Rattle.doubles.proofs.Run.{limb-count, wide-exponent, selects}
+use Rattle.doubles.proofs.Run.{limb-count, wide-exponent, passes, selects}
 use borrow.Author.Needs.{needs}
 use Rattle.doubles.proofs.select.select.Statement.{statement}
 use Rattle.doubles.proofs.select.select.Tie as tie
@@ -25,18 +25,21 @@ sub-unit : tie.Need-sub-unit
 unfolding operandOf
 sub-unit c = let w : 8192 ≤ counted (c .before .before .before .before .args .x .exponent) = wide-exponent _ (c .before .before .before .before .pre .0) (c .before .before .before .before .pre .1) in rw (counted-back c) (omega arith)
 
-slice-aggregate-round-run : tie.Need-slice-aggregate-round-run
-slice-aggregate-round-run c = search needs
+slice-aggregate-round-fit : tie.Need-slice-aggregate-round-fit
+slice-aggregate-round-fit c = search needs
 
-round-run-requires : tie.Need-round-run-requires
-round-run-requires c κs = search needs
+round-fit-requires : tie.Need-round-fit-requires
+unfolding operandOf
+round-fit-requires c κs =
+    let s = c .before .before .before .before .before in
+    rw (counted-back (c .before)) (sym (passes _ (s .pre .0) (s .pre .1) (s .args .mode) _ (c .before .before .before .leading .ensures)))
 
 array-read-t8 : tie.Need-array-read-t8
 array-read-t8 c = search needs
 
 returns : tie.Need-returns
 unfolding operandOf
-returns c = selects _ (c .before .before .before .before .before .before .before .pre .0) (c .before .before .before .before .before .before .before .pre .1) _ _ (c .before .before .before .before .before .leading .ensures) _ _ _ (counted-back (c .before .before .before)) (c .before .round-run .ensures .0) (c .before .round-run .ensures .1)
+returns c = selects _ (c .before .before .before .before .before .before .before .pre .0) (c .before .before .before .before .before .before .before .pre .1) _ _ (c .before .before .before .before .before .leading .ensures) _ _ _ (counted-back (c .before .before .before)) (c .before .round-fit .ensures .0) (c .before .round-fit .ensures .1)
 
 pub select-spec : {M : Type 1} → statement M
 select-spec =
@@ -45,7 +48,7 @@ select-spec =
     leading-requires
     counted-exponent-requires
     sub-unit
-    slice-aggregate-round-run
-    round-run-requires
+    slice-aggregate-round-fit
+    round-fit-requires
     array-read-t8
     returns)

@@ -1,4 +1,4 @@
--- `place::place` is right since the location is that of what truncation drops, the last unit is added where the location asks for it, and
+-- `place::round_fit` is right since the location is that of what truncation drops, the last unit is added where the location asks for it, and
 -- the exponent counts the digits of the run and a digit more where all were ones. Assumes nothing.
 use mathlib.Core.Path.{_≡_, refl, sym, ap, _∙_}
 use Prim.Native.Nat.{ℕ, _-_, _*_, _%_}
@@ -11,8 +11,8 @@ use Rattle.limb.proofs.Carry.{byte-le}
 use Rattle.place.proofs.Answer.{placed}
 use Rattle.place.proofs.Rules.{passed}
 use borrow.Author.Needs.{needs}
-use Rattle.place.proofs.place.Statement.{statement}
-use Rattle.place.proofs.place.Tie as tie
+use Rattle.place.proofs.round_fit.Statement.{statement}
+use Rattle.place.proofs.round_fit.Tie as tie
 
 -- what was truncated has no spare bit
 clean : (v n P : ℕ) → v ≡ n * P → v % P ≡ 0
@@ -93,8 +93,8 @@ returns c =
     (u .round-up .result) _ _ _ _ (l .locate .ensures) (k .truncate .ensures) (o .before .is-odd .ensures) (o .rounds-up .ensures) (u .round-up .ensures)
     (λ i. w .slice-known4 .given i .fits) refl (toZ-ofZ {w = w8} (record { sfits = t .ok }) ∙ t .ensures) (c .before .before .settle .ensures)
 
-pub place-spec : {M : Type 1} → statement M
-place-spec =
+pub round-fit-spec : {M : Type 1} → statement M
+round-fit-spec =
     tie.close
     (tie.spec
     mul-spare
