@@ -21,19 +21,10 @@ pub fn select(mode: u8, x: Number, xl: &[u64]) -> Selected
 {
     let a = leading(xl, x.precision);
     let unit = checks::counted_exponent(x.exponent) - 128;
-    let mut target = [a.top];
-    let placed = place::round_fit(
-        x.negative,
-        false,
-        &mut target,
-        a.guard,
-        a.more,
-        unit,
-        53,
-        mode,
-    );
+    let r = place::round_limb(x.negative, a.top, a.guard, a.more, unit, 53, mode);
+    let placed = r.placed;
     Selected {
         placed,
-        limb: target[0],
+        limb: r.limb,
     }
 }

@@ -6,3 +6,4 @@ pub mod Placing
 pub mod Reach
 pub mod Rules
 pub mod Unit
+pub mod OneLimb

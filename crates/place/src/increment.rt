@@ -1,5 +1,6 @@
 // Walk two: the last unit is added.
 ghost use mathlib.Core.Path.{_≡_};
+ghost use mathlib.Core.List.{[], _∷_};
 ghost use Prim.Native.Nat.{_+_, _*_, _/_, _%_, _^_, _<_};
 ghost use lib.Dec.{eqb};
 ghost use lib.ListN.{length};
@@ -52,4 +53,31 @@ pub fn round_up(target: &mut [u64], spare: u64, up: bool) -> bool
     let last = target.len() - 1;
     target[last] = FIRST_DIGIT;
     true
+}
+
+// One limb with the last unit where it is asked for, and whether all digits were ones.
+pub struct Raised {
+    pub limb: u64,
+    pub over: bool,
+}
+
+// The same for one limb.
+pub fn raise(limb: u64, spare: u64, up: bool) -> Raised
+    requires { ⌜ (spare < 64) × (valueOf (limb ∷ []) % 2 ^ spare ≡ 0) ⌝ }
+    ensures { λ r. ⌜ RoundedUp spare (valueOf (limb ∷ []) / 2 ^ spare + bit up) (limb ∷ []) (r .over) (r .limb ∷ []) ⌝ }
+{
+    if !up {
+        return Raised { limb, over: false };
+    }
+    let s = limb::add_carry(limb, power(spare), false);
+    if s.carry {
+        return Raised {
+            limb: FIRST_DIGIT,
+            over: true,
+        };
+    }
+    Raised {
+        limb: s.sum,
+        over: false,
+    }
 }

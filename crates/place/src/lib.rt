@@ -6,6 +6,9 @@
 //           [ p digits ][ digits below: offset + spare ]
 //
 ghost use mathlib.Core.Path.{_≡_};
+ghost use mathlib.Core.Bool.{false};
+ghost use mathlib.Core.List.{[], _∷_};
+ghost use Prim.Native.Nat.{_^_, _≤_};
 ghost use Rattle.place.specs.Placed.{runRule};
 ghost use Rattle.place.specs.Rounded.{roundedPlaced, roundedLimbs};
 
@@ -15,9 +18,11 @@ mod increment; // increment.rt: walk two
 mod limits; // limits.rt: which runs are rounded, and which exponents are in range
 
 use increment::is_odd;
+use increment::raise;
 use increment::round_up;
 use limits::run_rule;
 use limits::settle;
+use limits::settle_limb;
 use rest::locate;
 use rest::rounds_up;
 use rest::ternary;
@@ -29,6 +34,12 @@ pub struct Placed {
     pub rule: u8,
     pub exponent: u64,
     pub ternary: i8,
+}
+
+// The same, with the digits selected in one limb.
+pub struct PlacedLimb {
+    pub placed: Placed,
+    pub limb: u64,
 }
 
 // Nothing below the last kept digit, or something below, at or above the middle.
@@ -63,6 +74,32 @@ pub fn round_fit(
     settle(
         target,
         unit + precision + offset + spare + (over as u64),
+        ternary(negative, at, up),
+    )
+}
+
+// Rounds a run of one limb whose first digit is 1 as `round_fit` does, by value.
+pub fn round_limb(
+    negative: bool,
+    limb: u64,
+    guard: u64,
+    more: bool,
+    unit: u64,
+    precision: u64,
+    mode: u8,
+) -> PlacedLimb
+    requires { ⌜ (runRule precision false (limb ∷ []) unit ≡ 0) × (2 ^ 63 ≤ limb) ⌝ }
+    ensures { λ r. ⌜ r .placed ≡ roundedPlaced mode precision negative unit false (limb ∷ []) guard more ⌝ }
+    ensures { λ r. ⌜ r .limb ∷ [] ≡ roundedLimbs mode precision negative unit false (limb ∷ []) guard more ⌝ }
+{
+    let spare = 64 - precision;
+    let at = locate(limb, guard, 64 + spare, more);
+    let kept = (limb >> spare) << spare;
+    let up = rounds_up(mode, negative, at, (kept >> spare) % 2 == 1);
+    let raised = raise(kept, spare, up);
+    settle_limb(
+        raised.limb,
+        unit + precision + 64 + spare + (raised.over as u64),
         ternary(negative, at, up),
     )
 }

@@ -1,5 +1,6 @@
 // Which runs are rounded, and which exponents are in range.
 ghost use mathlib.Core.Path.{_≡_};
+ghost use mathlib.Core.List.{[], _∷_};
 ghost use mathlib.Core.Bool.{_&&_, _||_};
 ghost use Prim.Native.Nat.{_-_, _*_};
 ghost use lib.Dec.{ltb, leb};
@@ -8,6 +9,7 @@ ghost use Rattle.numbers.specs.Limits.{leastPrecision, mostPrecision, mostExpon
 ghost use Rattle.place.specs.Placed.{runRule};
 ghost use Rattle.place.specs.Walk.{Settled};
 use crate::Placed;
+use crate::PlacedLimb;
 
 // The counted exponents of document 01: 2^40 + 1 - 2^30 to 2^40 + 2^30 - 1.
 const LEAST_EXPONENT: u64 = 1098437885953;
@@ -84,5 +86,39 @@ pub fn settle(target: &mut [u64], exponent: u64, ternary: i8) -> Placed
         rule: 0,
         exponent,
         ternary,
+    }
+}
+
+// The same for one limb.
+pub fn settle_limb(limb: u64, exponent: u64, ternary: i8) -> PlacedLimb
+    ensures { λ r. ⌜ Settled exponent ternary (limb ∷ []) (r .placed) (r .limb ∷ []) ⌝ }
+{
+    if MOST_EXPONENT < exponent {
+        return PlacedLimb {
+            placed: Placed {
+                rule: 6,
+                exponent: 0,
+                ternary: 0,
+            },
+            limb: 0,
+        };
+    }
+    if exponent < LEAST_EXPONENT {
+        return PlacedLimb {
+            placed: Placed {
+                rule: 7,
+                exponent: 0,
+                ternary: 0,
+            },
+            limb: 0,
+        };
+    }
+    PlacedLimb {
+        placed: Placed {
+            rule: 0,
+            exponent,
+            ternary,
+        },
+        limb,
     }
 }

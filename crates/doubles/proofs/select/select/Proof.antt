@@ -1,11 +1,12 @@
 -- `doubles::select::select`: below two limbs only whether something stands there counts, so the run answers as the number does. Assumes nothing.
 use mathlib.Core.Path.{_≡_, sym}
+use mathlib.Core.List.{[], _∷_}
 use Prim.Native.Nat.{_≤_}
 use native.Mathlib.Omega.{arith}
 use mir.Facts.{toZ-ofZ}
 use Rattle.numbers.specs.Limits.{counted}
 use Rattle.checks.specs.Number.{operandOf}
-use Rattle.doubles.proofs.Run.{limb-count, wide-exponent, passes, selects}
+use Rattle.doubles.proofs.Run.{limb-count, wide-exponent, passes, top-large, selects}
 use borrow.Author.Needs.{needs}
 use Rattle.doubles.proofs.select.select.Statement.{statement}
 use Rattle.doubles.proofs.select.select.Tie as tie
@@ -25,30 +26,20 @@ sub-unit : tie.Need-sub-unit
 unfolding operandOf
 sub-unit c = let w : 8192 ≤ counted (c .before .before .before .before .args .x .exponent) = wide-exponent _ (c .before .before .before .before .pre .0) (c .before .before .before .before .pre .1) in rw (counted-back c) (omega arith)
 
-slice-aggregate-round-fit : tie.Need-slice-aggregate-round-fit
-slice-aggregate-round-fit c = search needs
-
-round-fit-requires : tie.Need-round-fit-requires
+round-limb-requires : tie.Need-round-limb-requires
 unfolding operandOf
-round-fit-requires c κs =
-    let s = c .before .before .before .before .before in
-    rw (counted-back (c .before)) (sym (passes _ (s .pre .0) (s .pre .1) (s .args .mode) _ (c .before .before .before .leading .ensures)))
-
-array-read-t8 : tie.Need-array-read-t8
-array-read-t8 c = search needs
+round-limb-requires c κs =
+    let s = c .before .before .before .before in
+    let l = c .before .before .leading .ensures in
+    (rw (counted-back c) (sym (passes _ (s .pre .0) (s .pre .1) (s .args .mode) _ l)), top-large _ (s .pre .0) (s .pre .1) (s .args .mode) _ l)
 
 returns : tie.Need-returns
 unfolding operandOf
-returns c = selects _ (c .before .before .before .before .before .before .before .pre .0) (c .before .before .before .before .before .before .before .pre .1) _ _ (c .before .before .before .before .before .leading .ensures) _ _ _ (counted-back (c .before .before .before)) (c .before .round-fit .ensures .0) (c .before .round-fit .ensures .1)
+returns c =
+    let s = c .before .before .before .before .before .before in
+    let r = c .before .round-limb in
+    selects _ (s .pre .0) (s .pre .1) _ _ (c .before .before .before .before .leading .ensures) _ (r .result .limb ∷ []) _ (counted-back (c .before .before)) (r .ensures .0) (r .ensures .1)
 
 pub select-spec : {M : Type 1} → statement M
 select-spec =
-    tie.close
-    (tie.spec
-    leading-requires
-    counted-exponent-requires
-    sub-unit
-    slice-aggregate-round-fit
-    round-fit-requires
-    array-read-t8
-    returns)
+    tie.close (tie.spec leading-requires counted-exponent-requires sub-unit round-limb-requires returns)
