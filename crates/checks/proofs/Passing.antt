@@ -1,14 +1,14 @@
 -- Where every test holds, nothing is refused; and what the quick tests say of the definitions. Assumes nothing.
 use mathlib.Core.Path.{_≡_, sym, _∙_}
 use mathlib.Core.Bool.{Bool, true, false, _&&_}
-use mathlib.Core.List.{List, []}
-use Prim.Native.Nat.{ℕ, _+_, _-_, _/_, _%_, _^_, _≤_, _<_}
+use mathlib.Core.List.{List, [], _∷_}
+use Prim.Native.Nat.{ℕ, _+_, _-_, _/_, _^_, _≤_, _<_}
 use native.Mathlib.Omega.{arith}
 use lib.Dec.{leb, eqb}
 use lib.ListN.{length, getD}
 use borrow.Author.Tests.{leb-true, le-leb, eqb-true}
 use Rattle.numbers.specs.Limits.{leastPrecision, limbsFor}
-use Rattle.numbers.specs.Operand.{Operand, spareBits}
+use Rattle.numbers.specs.Operand.{Operand}
 use Rattle.checks.specs.declared.Number.{Number}
 use Rattle.checks.specs.declared.Refusal.{Refusal}
 use Rattle.checks.specs.Number.{isZeroKind, operandOf}
@@ -42,7 +42,7 @@ pub sized-passes : (p n : ℕ) → precisionHolds p ≡ true → eqb n ((p + 63)
 unfolding lengthHolds limbsFor
 sized-passes p n h k = record { precision = h; limbs = k }
 
-pub limbs-hold : (p : ℕ) (l : List ℕ) (b : Bool) → 2 ^ 63 ≤ getD l (length l - 1) 0 → b ≡ eqb (getD l 0 0 % 2 ^ spareBits p) 0 → b ≡ true → topBitHolds l && spareBitsHold p l ≡ true
+pub limbs-hold : (p : ℕ) (l : List ℕ) (b : Bool) → 2 ^ 63 ≤ getD l (length l - 1) 0 → b ≡ spareBitsHold p (getD l 0 0 ∷ []) → b ≡ true → topBitHolds l && spareBitsHold p l ≡ true
 unfolding topBitHolds spareBitsHold
 limbs-hold p l b h e t = simp (le-leb (2 ^ 63) (getD l (length l - 1) 0) h, sym e ∙ t)
 

@@ -1,12 +1,10 @@
 // Numbers as a caller hands them over, and refusals 1 to 5 in their one order.
 ghost use mathlib.Core.Path.{_≡_};
 ghost use mathlib.Core.Bool.{true, _&&_};
-ghost use mathlib.Core.List.{[]};
-ghost use Prim.Native.Nat.{_%_, _^_, _<_};
-ghost use lib.Dec.{eqb};
+ghost use mathlib.Core.List.{[], _∷_};
+ghost use Prim.Native.Nat.{_<_};
 ghost use lib.ListN.{length};
 ghost use Rattle.numbers.specs.Limits.{counted, limbsFor};
-ghost use Rattle.numbers.specs.Operand.{spareBits};
 ghost use Rattle.checks.specs.Number.{isZeroKind, operandOf, turnedNumber, exponentOf, fetched};
 ghost use Rattle.checks.specs.Check.{accepted, modeHolds, precisionHolds, lengthHolds, exponentHolds, topBitHolds, spareBitsHold, formHolds, pairRefusal, singleRefusal, comparedRefusal, convertedRefusal, aloneRefusal};
 ghost use Rattle.checks.specs.Judged.{judgedOf, judgedTarget, firstPlace, refusalOf, TargetPasses, Passes};
@@ -153,7 +151,7 @@ fn top_bit_holds(l: &[u64]) -> bool
 
 // 5: the bits of a lowest limb below the last of p digits are 0.
 fn low_holds(p: u64, low: u64) -> bool
-    ensures { λ r. ⌜ r ≡ eqb (low % 2 ^ spareBits p) 0 ⌝ }
+    ensures { λ r. ⌜ r ≡ spareBitsHold p (low ∷ []) ⌝ }
 {
     let spare = (64 - p % 64) % 64;
     low % (1 << spare) == 0
