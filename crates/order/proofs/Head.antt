@@ -145,3 +145,29 @@ head-next x y i e f = rw add-one (ap (λ (n : ℕ). 2 ^ 64 * n + fromTop x i) e 
 pub head-none : (x y : List ℕ) → head (2 ^ 64) 0 x ≡ head (2 ^ 64) 0 y
 unfolding head
 head-none x y = refl
+
+-- two lists of as many limbs, of which i are left
+module _ (x y : List ℕ) (same : length x ≡ length y) (i : ℕ) (some : 0 < i) (left : i ≤ length x) (e : head (2 ^ 64) (length x - i) x ≡ head (2 ^ 64) (length x - i) y) where
+  next-x : fromTop x (length x - i) ≡ getD x (i - 1) 0
+  next-x = from-top-within x (length x - i) (omega arith) ∙ ap (λ (n : ℕ). getD x n 0) (omega arith)
+
+  next-y : fromTop y (length x - i) ≡ getD y (i - 1) 0
+  next-y = from-top-within y (length x - i) (omega arith) ∙ ap (λ (n : ℕ). getD y n 0) (omega arith)
+
+  pub alike-lt : Below (2 ^ 64) x → getD x (i - 1) 0 < getD y (i - 1) 0 → alignedOrder x y ≡ Ordering·lt
+  alike-lt b l = aligned-lt x y (length x - i) (omega arith) b e (omega (arith, next-x, next-y))
+
+  pub alike-gt : Below (2 ^ 64) y → getD y (i - 1) 0 < getD x (i - 1) 0 → alignedOrder x y ≡ Ordering·gt
+  alike-gt b l = aligned-gt x y (length x - i) (omega arith) b e (omega (arith, next-x, next-y))
+
+  pub alike-next : getD x (i - 1) 0 ≡ getD y (i - 1) 0 → head (2 ^ 64) (length x - (i - 1)) x ≡ head (2 ^ 64) (length x - (i - 1)) y
+  alike-next f = subst (λ (n : ℕ). head (2 ^ 64) n x ≡ head (2 ^ 64) n y) further (head-next x y (length x - i) e (next-x ∙ f ∙ sym next-y))
+    where
+      further : length x - i + 1 ≡ length x - (i - 1)
+      further = omega arith
+
+pub alike-none : (x y : List ℕ) → head (2 ^ 64) (length x - length x) x ≡ head (2 ^ 64) (length x - length x) y
+alike-none x y = subst (λ (n : ℕ). head (2 ^ 64) n x ≡ head (2 ^ 64) n y) (none (length x)) (head-none x y)
+  where
+    none : (n : ℕ) → 0 ≡ n - n
+    none n = omega arith

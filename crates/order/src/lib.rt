@@ -4,6 +4,7 @@ use checks::Refusal;
 ghost use mathlib.Core.Path.{_≡_};
 ghost use mathlib.Core.List.{[]};
 ghost use Prim.Native.Nat.{_+_, _≤_};
+ghost use lib.ListN.{length};
 ghost use Rattle.checks.specs.Number.{operandOf};
 ghost use Rattle.order.specs.Order.{caseOf, comparedOf};
 ghost use Rattle.order.specs.Steps.{fromTop, alignedOrder, regularOrder, sizeOrder, apartOrder, signedOrder};
@@ -41,7 +42,7 @@ fn from_top(limbs: &[u64], precision: u64, i: usize) -> u64
 //
 //     x   [top] [   ] [   ] [low]
 //     y   [top] [low]   0     0
-fn order_limbs(xl: &[u64], xp: u64, yl: &[u64], yp: u64) -> Order
+fn order_padded(xl: &[u64], xp: u64, yl: &[u64], yp: u64) -> Order
     ensures { λ r. ⌜ r ≡ caseOf (alignedOrder (now (xl .entry)) (now (yl .entry))) ⌝ }
 {
     let n = longer(xl.len(), yl.len());
@@ -58,6 +59,36 @@ fn order_limbs(xl: &[u64], xp: u64, yl: &[u64], yp: u64) -> Order
         i += 1;
     }
     Order::Equal
+}
+
+// Two mantissas of as many limbs: no end is looked for on the way.
+fn order_alike(xl: &[u64], xp: u64, yl: &[u64], yp: u64) -> Order
+    requires { ⌜ length (now xl) ≡ length (now yl) ⌝ }
+    ensures { λ r. ⌜ r ≡ caseOf (alignedOrder (now (xl .entry)) (now (yl .entry))) ⌝ }
+{
+    let mut i = xl.len();
+    while 0 < i {
+        i -= 1;
+        let a = checks::fetch(xl, xp, i);
+        let b = checks::fetch(yl, yp, i);
+        if a != b {
+            if a < b {
+                return Order::Less;
+            }
+            return Order::Greater;
+        }
+    }
+    Order::Equal
+}
+
+// Two mantissas by their limbs.
+fn order_limbs(xl: &[u64], xp: u64, yl: &[u64], yp: u64) -> Order
+    ensures { λ r. ⌜ r ≡ caseOf (alignedOrder (now (xl .entry)) (now (yl .entry))) ⌝ }
+{
+    if xl.len() == yl.len() {
+        return order_alike(xl, xp, yl, yp);
+    }
+    order_padded(xl, xp, yl, yp)
 }
 
 // Two regular numbers without their signs: the exponents decide, else the limbs.

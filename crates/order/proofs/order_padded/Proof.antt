@@ -1,4 +1,4 @@
--- `order::order_limbs`: the limbs passed are equal, the first difference decides, and past both ends nothing is left. Assumes nothing.
+-- `order::order_padded`: the limbs passed are equal, the first difference decides, and past both ends nothing is left. Assumes nothing.
 use mathlib.Core.Path.{_≡_, sym, ap}
 use Prim.Native.Nat.{_+_, _-_, _^_, _≤_, _<_}
 use native.Mathlib.Omega.{arith}
@@ -7,8 +7,8 @@ use Rattle.order.specs.Order.{caseOf}
 use Rattle.order.specs.Steps.{fromTop}
 use Rattle.order.proofs.Head.{head, head-none, head-next, aligned-lt, aligned-gt, aligned-eq}
 use borrow.Author.Needs.{needs}
-use Rattle.order.proofs.order_limbs.Statement.{statement}
-use Rattle.order.proofs.order_limbs.Tie as tie
+use Rattle.order.proofs.order_padded.Statement.{statement}
+use Rattle.order.proofs.order_padded.Tie as tie
 
 abbrev Inv-loop : tie.InvT-loop
 Inv-loop xl xp yl yp n i₀ i = (i ≤ n) × (head (2 ^ 64) i xl ≡ head (2 ^ 64) i yl)
@@ -69,8 +69,8 @@ returns-3 c =
     let m = c .before .before .longer .ensures in
     ap caseOf (sym (aligned-eq (s .args .xl .now) (s .args .yl .now) (l .i) (omega arith) (omega arith) (omega arith) (l .inv .1)))
 
-pub order-limbs-spec : {M : Type 1} → statement M
-order-limbs-spec =
+pub order-padded-spec : {M : Type 1} → statement M
+order-padded-spec =
     tie.close
     (tie.spec
     Inv-loop
