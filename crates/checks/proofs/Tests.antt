@@ -6,7 +6,7 @@ use Prim.Native.Nat.{ℕ, _-_, _*_, _%_, _^_, _<_}
 use native.Mathlib.Nat.{mod-eq-of-lt, one-mul}
 use native.Mathlib.Omega.{arith}
 use lib.Dec.{leb, eqb}
-use lib.ListN.{length}
+use lib.ListN.{length, getD}
 use lib.Pow.{pow-pos, pow-lt}
 use borrow.Author.Tests.{eq-eqb}
 use Rattle.numbers.specs.Limits.{counted, bias, leastExponent, mostExponent, limbsFor}
@@ -54,5 +54,14 @@ spare-is p = omega arith
 pub spare-lt : (p : ℕ) → spareBits p < 64
 spare-lt p = omega (arith, spare-is p)
 
-pub spare-divisor : (p : ℕ) → 1 * 2 ^ ((64 - p % 64) % 64) % 18446744073709551616 ≡ 2 ^ spareBits p
-spare-divisor p = rw (spare-is p, one-mul (2 ^ spareBits p)) (mod-eq-of-lt (pow-lt (spare-lt p)))
+-- a divisor that is 1 moved up by s
+module _ (p s : ℕ) (e : s ≡ spareBits p) where
+  divisor-is : 1 * 2 ^ s % 18446744073709551616 ≡ 2 ^ spareBits p
+  divisor-is = rw (e, one-mul (2 ^ spareBits p)) (mod-eq-of-lt (pow-lt (spare-lt p)))
+
+  pub divisor-pos : 0 < 1 * 2 ^ s % 18446744073709551616
+  divisor-pos = rw divisor-is (pow-pos (spareBits p))
+
+  pub spare-test : (l : List ℕ) → eqb (getD l 0 0 % (1 * 2 ^ s % 18446744073709551616)) 0 ≡ spareBitsHold p l
+  unfolding spareBitsHold
+  spare-test l = rw divisor-is

@@ -1,9 +1,9 @@
 -- `checks::spare_bits_hold`: the shift is the number of spare bits, below 64, so the divisor is 2 to it. Assumes nothing.
-use lib.Pow.{pow-pos}
+use native.Mathlib.Omega.{arith}
+use Rattle.numbers.specs.Limits.{limbsFor}
 use Rattle.numbers.specs.Operand.{spareBits}
-use Rattle.checks.specs.Check.{spareBitsHold}
 use borrow.Author.Needs.{needs}
-use Rattle.checks.proofs.Tests.{empty-spare, spare-divisor}
+use Rattle.checks.proofs.Tests.{empty-spare, divisor-pos, spare-test}
 use Rattle.checks.proofs.spare_bits_hold.Statement.{statement}
 use Rattle.checks.proofs.spare_bits_hold.Tie as tie
 
@@ -20,11 +20,12 @@ shl-result : tie.Need-shl-result
 shl-result c = search needs
 
 rem-result : tie.Need-rem-result
-rem-result c = rw (spare-divisor (c .before .before .args .p)) (pow-pos (spareBits (c .before .before .args .p)))
+unfolding spareBits limbsFor
+rem-result c = divisor-pos (c .before .before .args .p) _ (omega arith)
 
 returns-2 : tie.Need-returns-2
-unfolding spareBitsHold
-returns-2 c = rw (spare-divisor (c .before .before .args .p))
+unfolding spareBits limbsFor
+returns-2 c = spare-test (c .before .before .args .p) _ (omega arith) _
 
 pub spare-bits-hold-spec : {M : Type 1} → statement M
 spare-bits-hold-spec =
