@@ -9,7 +9,7 @@ from dataclasses import replace
 
 from kernel import (
     BASE, DOWN, NEAREST, REGULAR, UP, add, answer_from, depth_bound, draw_near, ends, limb_count,
-    outcome, power, regular, select, sign_of, term_of, top_exponent, total,
+    limbs_used, outcome, power, regular, select, sign_of, term_of, top_exponent, total,
 )
 from marked import written
 
@@ -21,6 +21,17 @@ def exact_sum(x, y):
     return total(terms, [term.sign * term.digits for term in terms])
 
 
+def stopped_at(answer, x, y, depth):
+    """An answer with a depth and the limbs that so many columns touch."""
+    top = top_exponent([term_of(x), term_of(y)])
+    return replace(answer, depth=depth, used1=limbs_used(x, top, depth), used2=limbs_used(y, top, depth))
+
+
+def in_place_of(right, x, y, whole, scale, precision, mode):
+    """Another value rounded; depth and limbs used are as they were."""
+    return stopped_at(answer_from(outcome(whole, scale, precision, mode), precision), x, y, right.depth)
+
+
 def cut(whole, scale, bits):
     """The top bits of a value; everything below taken as clear."""
     drop = max(abs(whole).bit_length() - bits, 0)
@@ -29,17 +40,19 @@ def cut(whole, scale, bits):
 
 def unread_as_clear(x, y, precision, mode):
     """Taking r and s from the top p + 2 bits and unread limbs as clear."""
-    return answer_from(outcome(*cut(*exact_sum(x, y), precision + 2), precision, mode), precision)
+    right = add(x, y, precision, limb_count(precision), mode)
+    return in_place_of(right, x, y, *cut(*exact_sum(x, y), precision + 2), precision, mode)
 
 
 def hole_as_exact(x, y, precision, mode):
     """Treating the hole between two mantissas as exactness."""
     high, low = (x, y) if x.exponent >= y.exponent else (y, x)
     gap = high.exponent - low.exponent
+    right = add(x, y, precision, limb_count(precision), mode)
     if gap <= max(high.precision, precision):
-        return add(x, y, precision, limb_count(precision), mode)
+        return right
     term = term_of(high)
-    return answer_from(outcome(term.sign * term.digits, term.scale, precision, mode), precision)
+    return in_place_of(right, x, y, term.sign * term.digits, term.scale, precision, mode)
 
 
 def exponent_not_raised(x, y, precision, mode):
@@ -85,7 +98,7 @@ def stop_where_either_ends(x, y, precision, mode):
         ended = any(seen >= term.precision for term, seen in zip(terms, reach))
         if rest >= 1 and (ended or not alike):
             answer = answer_from(outcome(whole, scale, precision, mode), precision)
-            return replace(answer, depth=columns)
+            return stopped_at(answer, x, y, columns)
     return add(x, y, precision, limb_count(precision), mode)
 
 
@@ -102,7 +115,7 @@ def sides_of_zero_alike(x, y, precision, mode):
     for columns in range(1, right.depth):
         least, greatest, scale = ends(terms, columns)
         if outcome(least, scale, precision, mode) == outcome(greatest, scale, precision, mode):
-            return replace(right, depth=columns)
+            return stopped_at(right, x, y, columns)
     return right
 
 

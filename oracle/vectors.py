@@ -57,15 +57,19 @@ def sum_given(case):
             + number_given(case.y))
 
 
-def sum_answer(case):
+def told_by(case):
+    """The answer of a case that is no comparison."""
     target = (case.precision, case.length, case.mode)
+    if case.operation == REROUND:
+        return reround(case.x, *target)
+    return {ADD: add, SUBTRACT: subtract}[case.operation](case.x, case.y, *target)
+
+
+def sum_answer(case):
     if case.operation == COMPARE:
         order, refusal, place = compare(case.x, case.y)
         return field(refusal, 1) + field(place, 1) + field(order, 1), refusal
-    if case.operation == REROUND:
-        answer = reround(case.x, *target)
-    else:
-        answer = {ADD: add, SUBTRACT: subtract}[case.operation](case.x, case.y, *target)
+    answer = told_by(case)
     return sum_fields(case, answer), answer.refusal
 
 

@@ -1,34 +1,66 @@
 -- Laws of a signed exponent and how it is counted. Assumes nothing.
-use mathlib.Core.Path.{_≡_, sym, ap, _∙_}
+use mathlib.Core.Path.{_≡_, refl, sym, ap, _∙_}
+use mathlib.Core.Bool.{true}
 use Prim.Native.Nat.{ℕ, suc, _+_, _-_, _^_, _≤_, _<_}
 use native.Mathlib.Nat.{add-comm, lt-of-not-le}
 use native.Mathlib.Decide.{decLe}
 use native.Mathlib.Omega.{arith}
-use lib.IntN.{ℤ, pos, negsuc, _+ℤ_, _-ℤ_, subℕ}
+use lib.Dec.{T, leb}
+use lib.IntN.{ℤ, pos, negsuc, _+ℤ_, _-ℤ_, subℕ, natAbs}
+use lib.Signed.{nonNeg}
 use mir.Syntax.{w32, w64}
-use mir.Val.{SFits, toZ, ofZ}
+use mir.Val.{Fits, SFits, toZ, ofZ}
 use mir.Facts.{toZ-ofZ, toZ-pos, sfits-widen}
-use borrow.Author.Tests.{le-ltb, lt-ltb, le-leb, lt-leb}
+use borrow.Author.Tests.{le-ltb, lt-ltb, le-leb, lt-leb, leb-true}
 use Rattle.numbers.specs.Limits.{bias, counted, leastExponent, mostExponent}
 use Rattle.checks.specs.Number.{exponentOf}
 
-pub counted-lt : (z : ℤ) → SFits w32 z → counted z < 2 ^ 41
-unfolding counted bias
-counted-lt (pos n) h = omega arith
-counted-lt (negsuc n) h = omega arith
-
--- what the machine adds
-pub counted-sum : (z : ℤ) → SFits w32 z → z +ℤ pos 1099511627776 ≡ pos (counted z)
-unfolding counted bias
-counted-sum (pos n) h = ap pos (add-comm n _)
-counted-sum (negsuc n) h = rw (le-ltb (2 ^ 40) (suc n) (omega arith))
-
 -- a value that is written and read back
-pub read-back : {z : ℤ} → SFits w32 z → toZ w64 (ofZ w64 (toZ w32 (ofZ w32 z))) ≡ z
+read-back : {z : ℤ} → SFits w32 z → toZ w64 (ofZ w64 (toZ w32 (ofZ w32 z))) ≡ z
 read-back {z} h = ap (λ (y : ℤ). toZ w64 (ofZ w64 y)) (toZ-ofZ h) ∙ toZ-ofZ (sfits-widen tt h)
 
-pub small-fits : {n : ℕ} → n < 2 ^ 41 → SFits w64 (pos n)
-small-fits h = omega arith
+-- z, counted from -b
+unfoldable pub from : ℕ → ℤ → ℕ
+from b (pos n) = b + n
+from b (negsuc n) = b - suc n
+
+-- what the machine adds, b being large enough that no exponent of 32 bits falls below 0, and small enough for 64
+module _ (b : ℕ) {z : ℤ} (h : SFits w32 z) (low : leb (2 ^ 31) b ≡ true) (high : leb b (2 ^ 62) ≡ true) where
+  from-lt : from b z < 2 ^ 63
+  unfolding from
+  from-lt = go z h (leb-true b (2 ^ 62) high)
+    where
+      go : (z : ℤ) → SFits w32 z → b ≤ 2 ^ 62 → from b z < 2 ^ 63
+      go (pos n) f g = omega arith
+      go (negsuc n) f g = omega arith
+
+  from-sum : z +ℤ pos b ≡ pos (from b z)
+  unfolding from
+  from-sum = go z h (leb-true (2 ^ 31) b low)
+    where
+      go : (z : ℤ) → SFits w32 z → 2 ^ 31 ≤ b → z +ℤ pos b ≡ pos (from b z)
+      go (pos n) f g = ap pos (add-comm n b)
+      go (negsuc n) f g = rw (le-ltb b (suc n) (omega arith))
+
+  small-fits : SFits w64 (pos (from b z))
+  small-fits = omega (arith, from-lt)
+
+  pub sum-fits : SFits w64 (toZ w64 (ofZ w64 (toZ w32 (ofZ w32 z))) +ℤ pos b)
+  sum-fits = rw (read-back h, from-sum) small-fits
+
+  sum-reads : toZ w64 (ofZ w64 (toZ w64 (ofZ w64 (toZ w32 (ofZ w32 z))) +ℤ pos b)) ≡ pos (from b z)
+  sum-reads = rw (read-back h, from-sum) (toZ-ofZ small-fits)
+
+  pub sum-casts : T (nonNeg (toZ w64 (ofZ w64 (toZ w64 (ofZ w64 (toZ w32 (ofZ w32 z))) +ℤ pos b)))) × Fits w64 (natAbs (toZ w64 (ofZ w64 (toZ w64 (ofZ w64 (toZ w32 (ofZ w32 z))) +ℤ pos b))))
+  sum-casts = rw sum-reads (tt, omega (arith, from-lt))
+
+  pub sum-is : natAbs (toZ w64 (ofZ w64 (toZ w64 (ofZ w64 (toZ w32 (ofZ w32 z))) +ℤ pos b))) ≡ from b z
+  sum-is = ap natAbs sum-reads
+
+pub from-counted : (z : ℤ) → from 1099511627776 z ≡ counted z
+unfolding from counted bias
+from-counted (pos n) = refl
+from-counted (negsuc n) = refl
 
 -- every counted exponent of a regular number is that of an exponent
 pub counted-exponent-of : (c : ℕ) → leastExponent ≤ c → c ≤ mostExponent → counted (exponentOf c) ≡ c

@@ -7,7 +7,7 @@ use native.Mathlib.Nat.{add-mul, le-refl, le-trans, le-of-eq, le-of-lt, lt-of-lt
 use native.Mathlib.Omega.{arith}
 use borrow.Author.Tests.{ltb-true, ltb-false}
 use lib.Dec.{ltb}
-use lib.Pow.{pow-pos, pow-mono}
+use lib.Pow.{pow-pos}
 use lib.Ieee.{size}
 use Rattle.rounding.specs.Mode.{Mode, Way, way}
 use Rattle.rounding.specs.Answer.{Answer, zeroOf, rounded, answer}
@@ -24,7 +24,7 @@ use Rattle.decide.proofs.Range.{Sides, decided-if, decided-only, only-l
 use Rattle.rounding.proofs.Scale.{rounded-shift}
 use Rattle.decide.proofs.Answered.{decided-answer}
 use Rattle.decide.proofs.Rows.{sub-mul, Seen, seen-le, Held, last-none, last-half, same-one, same-both, unlike-unread, unlike-read, sides-same-one, sides-same-both, sides-unlike-unread, sides-unlike-read}
-use Rattle.decide.proofs.RowsFar.{Unseen, far-same, far-unlike, hole-same, hole-unlike, sides-far-same, sides-far-unlike, sides-hole-same, sides-hole-unlike}
+use Rattle.decide.proofs.RowsFar.{Unseen, unseen-le, far-same, far-unlike, hole-same, hole-unlike, sides-far-same, sides-far-unlike, sides-hole-same, sides-hole-unlike}
 
 -- the test t decides A
 pub record Decides (t : Bool) (A : Type 0) : Type 0 where
@@ -282,8 +282,8 @@ module _ (neg : Bool) (o : Mode) (p s : ℕ) (P : 0 < p) where
   unfolding farPair farAnswer farSame farUnlike farSameRow farUnlikeRow
   far-pair a b j x u xl xh g f yl yh c d e r h =
       by-signs a b (farSame (way o a) p (j + s) x (suc u) f) (farUnlike (way o a) p x (suc u) f) _ _ xl xh yl yh
-      (sum-ends a _ _ xl xh yl yh (omega (arith, pow-pos g, d .low)) (omega (arith, pow-pos g, d .low, low-le, high-le)) (judged-large (way o a) a j x true (not (some? f)) (cond (ltb f (suc u)) 1 0) true 0 (xl + yl) (xh + yh) (far-same s j x u xl xh g f yl yh c d e) (sides-far-same s j x u xl xh g f yl yh c d e h r (cond (ltb f (suc u)) 1 0) 0) (le-trans (r .from h) (wider j (more x (cond (ltb f (suc u)) 1 0))))))
-      (difference-ends a _ _ xl xh yl yh apart (lt-of-le-of-lt low-le (lt-of-lt-of-le apart high-le))
+      (sum-ends a _ _ xl xh yl yh (omega (arith, pow-pos g, d .low)) (omega (arith, pow-pos g, d .low, unseen-le d, high-le)) (judged-large (way o a) a j x true (not (some? f)) (cond (ltb f (suc u)) 1 0) true 0 (xl + yl) (xh + yh) (far-same s j x u xl xh g f yl yh c d e) (sides-far-same s j x u xl xh g f yl yh c d e h r (cond (ltb f (suc u)) 1 0) 0) (le-trans (r .from h) (wider j (more x (cond (ltb f (suc u)) 1 0))))))
+      (difference-ends a _ _ xl xh yl yh apart (lt-of-le-of-lt (unseen-le d) (lt-of-lt-of-le apart high-le))
       (judged-plain (way o a) a j (x - 1) true false 1 (some? (suc u - 1) || some? f) 0 (xl - yh) (xh - yl) (subst (λ (z : ℕ). Span j (x - 1) true 1 (some? z || some? f) (xl - yh) (xh - yl)) (sym (pred u)) (far-unlike s j x u xl xh g f yl yh c d e h)) (sides-far-unlike s j x u xl xh g f yl yh c d e h r 0) (le-trans (r .from h) (wider j (omega arith))) (difference-to j x (x - 1 + 1) r h (omega arith))))
     where
       pred : (u : ℕ) → suc u - 1 ≡ u
@@ -295,12 +295,6 @@ module _ (neg : Bool) (o : Mode) (p s : ℕ) (P : 0 < p) where
       high-le : xl ≤ xh
       high-le = let k = last-half (c .l) u j (c .cut) in omega (arith, c .low, c .high)
 
-      low-le : yl ≤ yh
-      low-le = let k = pow-mono (lt-le (d .two)) in omega (arith, d .low, d .high)
-        where
-          lt-le : {a b : ℕ} → a < b → a ≤ b
-          lt-le h = omega arith
-
       apart : yh < xl
       apart = let k = last-half g f j e in let m = mul-le-mul-right (2 ^ j) h in omega (arith, c .low, d .high, pow-pos (d .l))
 
@@ -308,14 +302,8 @@ module _ (neg : Bool) (o : Mode) (p s : ℕ) (P : 0 < p) where
   unfolding holePair holeAnswer holeSame holeUnlike holeSameRow holeUnlikeRow
   hole-pair a b z xl g yl yh e d h r =
       by-signs a b (holeSame (way o a) p (g + s) z) (holeUnlike (way o a) p (g + s) z) _ _ xl xl yl yh
-      (sum-ends a _ _ xl xl yl yh (omega (arith, pow-pos g, d .low)) (omega (arith, pow-pos g, d .low, low-le)) (judged (way o a) a g (z + 1) false false 0 true 0 (xl + yl) (xl + yh) (hole-same s z xl g yl yh e d h r) (sides-hole-same s z xl g yl yh e d h r)))
-      (difference-ends a _ _ xl xl yl yh apart (lt-of-le-of-lt low-le apart) (judged (way o a) a g (z - 2) true false 1 false 0 (xl - yh) (xl - yl) (hole-unlike s z xl g yl yh e d h r) (sides-hole-unlike s z xl g yl yh e d h r)))
+      (sum-ends a _ _ xl xl yl yh (omega (arith, pow-pos g, d .low)) (omega (arith, pow-pos g, d .low, unseen-le d)) (judged (way o a) a g (z + 1) false false 0 true 0 (xl + yl) (xl + yh) (hole-same s z xl g yl yh e d h r) (sides-hole-same s z xl g yl yh e d h r)))
+      (difference-ends a _ _ xl xl yl yh apart (lt-of-le-of-lt (unseen-le d) apart) (judged (way o a) a g (z - 2) true false 1 false 0 (xl - yh) (xl - yl) (hole-unlike s z xl g yl yh e d h r) (sides-hole-unlike s z xl g yl yh e d h r)))
     where
-      low-le : yl ≤ yh
-      low-le = let k = pow-mono (lt-le (d .two)) in omega (arith, d .low, d .high)
-        where
-          lt-le : {a b : ℕ} → a < b → a ≤ b
-          lt-le h = omega arith
-
       apart : yh < xl
       apart = let m = mul-le-mul-right (2 ^ g) h in omega (arith, d .high, pow-pos (d .l))

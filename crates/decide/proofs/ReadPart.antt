@@ -21,6 +21,14 @@ use Rattle.decide.proofs.Lean.{zero-or}
 use Rattle.decide.proofs.Rows.{Seen, Held}
 use Rattle.decide.proofs.RowsFar.{Unseen}
 
+-- one unit of B taken away and put back
+back : (U B : ℕ) → 0 < U → (U - 1) * B + B ≡ U * B
+back zero B h = absurd (omega arith)
+back (suc U) B h = let e : (suc U - 1) * B ≡ U * B = ap (λ (z : ℕ). z * B) (pred U) in omega (arith, suc-mul U B)
+  where
+    pred : (u : ℕ) → suc u - 1 ≡ u
+    pred u = omega arith
+
 -- a number of p digits, counted in another unit, has the exponent that it had
 module _ (x : Operand) (g : WellFormed x) (r : x .isZero ≡ false) (s : ℕ) (sc : s ≤ lastWeight x) where
   abbrev a : ℕ
@@ -86,13 +94,6 @@ module _ (t k s : ℕ) (x : Operand) (g : WellFormed x) (r : x .isZero ≡ false
     where
       turn : (u : ℕ) → u + b ≡ j → b + u ≡ j
       turn u c = omega arith
-
-      back : (U B : ℕ) → 0 < U → (U - 1) * B + B ≡ U * B
-      back zero B h = absurd (omega arith)
-      back (suc U) B h = let e : (suc U - 1) * B ≡ U * B = ap (λ (z : ℕ). z * B) (pred U) in omega (arith, suc-mul U B)
-        where
-          pred : (u : ℕ) → suc u - 1 ≡ u
-          pred u = omega arith
 
   pub seen-is : Seen j read u (amount s (end t k x false)) (amount s (end t k x true))
   unfolding digitsAt
@@ -197,10 +198,3 @@ module _ (t k s : ℕ) (x : Operand) (g : WellFormed x) (r : x .isZero ≡ false
 
       one : (p : ℕ) → 2 ≤ p → p + h ≡ suc (p - 1 + h)
       one p k = omega arith
-
-      back : (U B : ℕ) → 0 < U → (U - 1) * B + B ≡ U * B
-      back zero B h = absurd (omega arith)
-      back (suc U) B h = let e : (suc U - 1) * B ≡ U * B = ap (λ (z : ℕ). z * B) (pred U) in omega (arith, suc-mul U B)
-        where
-          pred : (u : ℕ) → suc u - 1 ≡ u
-          pred u = omega arith

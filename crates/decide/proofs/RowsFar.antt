@@ -28,6 +28,9 @@ half-pow l g h = le-trans (le-of-eq (twice (2 ^ l) ∙ sym (pow-succ' 2 l))) (po
     twice : (a : ℕ) → a * 2 ≡ 2 * a
     twice a = omega arith
 
+pub unseen-le : {g least most : ℕ} → Unseen g least most → least ≤ most
+unseen-le {g} d = let k = half-pow (d .l) g (d .two) in omega (arith, d .low, d .high)
+
 more : (j s : ℕ) {a b : ℕ} → a ≤ b → a + (j + s) ≤ b + (j + s)
 more j s h = omega arith
 

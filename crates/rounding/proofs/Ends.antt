@@ -1,5 +1,5 @@
--- Two exact values of one sign with one answer: every exact value between them has it too. A change of sign is a change of answer.
-use mathlib.Core.Path.{_≡_, refl, sym, _∙_}
+-- Two exact values of one sign with one answer: every exact value between them has it too. What is not zero is never answered by a zero.
+use mathlib.Core.Path.{_≡_, sym, _∙_}
 use mathlib.Core.Bool.{Bool, true, false, cond}
 use Prim.Native.Nat.{ℕ, _+_, _-_, _≤_, _<_, compare, Ordering, Ordering·lt, Ordering·eq, Ordering·gt}
 use native.Mathlib.Nat.{le-antisymm, le-trans, le-of-eq, le-of-lt, lt-of-lt-of-le, lt-of-le-of-lt}
@@ -57,18 +57,3 @@ unfolding rounded ranged
 regular w p s n t m e =
     let c = chosen w p m in
     never (ltb mostExponent (size c + s)) (ltb (size c + s) leastExponent) n t (size c + s) (digits p c) (signed n (compare c m)) e
-
--- If the ends agree, and zero is answered alike where the sign changes between them, the sign does not change.
-pub one-sign : (z : Bool) (o : Mode) (p s i j k l : ℕ) → 0 < p → i ≤ k → l ≤ j → (i < j → l < k → answer z o p s i j ≡ zeroOf z) → answer z o p s i j ≡ answer z o p s k l → compare i j ≡ compare k l
-one-sign z o p s i j k l P ik lj cross e = go (compare i j) (compare k l) (cmp i j) (cmp k l)
-  where
-    go : (x y : Ordering) → Cmp x i j → Cmp y k l → x ≡ y
-    go Ordering·lt Ordering·lt u v = refl
-    go Ordering·lt Ordering·eq u v = absurd (regular (way o true) p s true z (j - i) (sym (minus z o p s P i j u) ∙ e ∙ nought z o p s P k l v))
-    go Ordering·lt Ordering·gt u v = absurd (regular (way o true) p s true z (j - i) (sym (minus z o p s P i j u) ∙ cross u v))
-    go Ordering·eq Ordering·lt u v = absurd (omega arith)
-    go Ordering·eq Ordering·eq u v = refl
-    go Ordering·eq Ordering·gt u v = absurd (regular (way o false) p s false z (k - l) (sym (plus z o p s P k l v) ∙ sym e ∙ nought z o p s P i j u))
-    go Ordering·gt Ordering·lt u v = absurd (omega arith)
-    go Ordering·gt Ordering·eq u v = absurd (omega arith)
-    go Ordering·gt Ordering·gt u v = refl

@@ -20,7 +20,7 @@ use Rattle.numbers.proofs.Limits.{two-digits, limbs-hold, limbs-fewest}
 use Rattle.rounding.proofs.Order.{le-or-lt}
 use Rattle.rounding.specs.Mode.{Mode, modeOf}
 use Rattle.rounding.specs.Answer.{Answer, zeroOf}
-use Rattle.rounding.specs.Sum.{add, zeroSign, cancelled}
+use Rattle.rounding.specs.Sum.{add, zeroSign}
 use Rattle.depth.specs.Columns.{topExponent, limbsUsed}
 use Rattle.depth.specs.Bound.{deepest}
 use Rattle.depth.specs.Depth.{plus, result, Depth}
@@ -247,9 +247,8 @@ module _ (mode p n : ℕ) (room : Room p n) (x y : Operand) (l : Level x y) (k :
   fewer : 1 < k → decideAt o p x y (k - 1) ≡ false
   fewer h = equal-decision o p P-pos x y (k - 1) d (omega arith) apart (fewer-level h) ∙ row-open (pairOf x y) (k - 1) some (rw (first-is x y, reach-is) (longest h))
 
-  sum : add o p x y ≡ zeroOf false
-  unfolding zeroSign cancelled
-  sum = cancelled-sum o p P-pos x y k d K (omega (arith, columns-above x (l .first) (l .first-regular) k (omega (arith, deep-enough, few)))) apart level row ∙ rw (l .unlike) refl
+  sum : add o p x y ≡ zeroOf (zeroSign o (x .negative) (y .negative))
+  sum = cancelled-sum o p P-pos x y k d K (omega (arith, columns-above x (l .first) (l .first-regular) k (omega (arith, deep-enough, few)))) apart level row
 
   top-level : (m : ℕ) → m ≡ x .exponent → 0 ≡ topExponent x y - m
   unfolding topExponent
@@ -258,15 +257,15 @@ module _ (mode p n : ℕ) (room : Room p n) (x y : Operand) (l : Level x y) (k :
       go : (n : ℕ) → 0 ≡ max n n - n
       go n = omega arith
 
-  pub cancelled-reported : {exit : List ℕ} {s : Sum} {u v : ℕ} → exit ≡ replicate n 0 → u ≡ usedOf k 0 (length (x .limbs)) → v ≡ usedOf k 0 (length (y .limbs)) → s ≡ sumOf (zeroOf false) p k u v → Reported plus o p x y exit s
+  pub cancelled-reported : {exit : List ℕ} {s : Sum} {z : Bool} {u v : ℕ} → exit ≡ replicate n 0 → z ≡ zeroSign o (x .negative) (y .negative) → u ≡ usedOf k 0 (length (x .limbs)) → v ≡ usedOf k 0 (length (y .limbs)) → s ≡ sumOf (zeroOf z) p k u v → Reported plus o p x y exit s
   unfolding result sumOf limbsAfter
-  cancelled-reported {exit} {s} {u} {v} f us vs h =
+  cancelled-reported {exit} {s} {z} {u} {v} f zs us vs h =
       let ks : s .depth ≡ k = ap (λ (q : Sum). q .depth) h in
       record {
         depth = rw ks (record { zeros = λ z. absurd (true≢false (sym z ∙ rw (l .first-regular) refl)); deciding = λ z. depth-decided o p P-pos x y (l .first) (l .second) k K fixed fewer });
         bounded = rw ks (omega (arith, deep-enough, few));
         answer =
-            h ∙ rw (ks, sum, us, vs, used-is x (topExponent x y) k 0 (l .first) (l .first-regular) (top-level (x .exponent) refl), used-is y (topExponent x y) k 0 (l .second) (l .second-regular) (top-level (y .exponent) (l .even))) refl;
+            h ∙ rw (ks, sum, zs, us, vs, used-is x (topExponent x y) k 0 (l .first) (l .first-regular) (top-level (x .exponent) refl), used-is y (topExponent x y) k 0 (l .second) (l .second-regular) (top-level (y .exponent) (l .even))) refl;
         target = f ∙ ap (λ (m : ℕ). replicate m 0) (room .count) ∙ rw sum refl;
       }
 
@@ -278,10 +277,10 @@ module _ (x : Number) (xl : List ℕ) (y : Number) (yl : List ℕ) (p n : ℕ) (
     unfolding operandOf
     never-few e = let d : Differs xl yl (Never k) = rw e at t in let a = few 0 p n room (operandOf x xl) (operandOf y yl) l k (d .0) (d .1) in omega arith
 
-    pub never-reported : (mode : ℕ) {exit : List ℕ} {s : Sum} {u v : ℕ} → r ≡ Never k → exit ≡ replicate n 0 → u ≡ usedOf k 0 (length xl) → v ≡ usedOf k 0 (length yl) → s ≡ sumOf (zeroOf false) p k u v
+    pub never-reported : (mode : ℕ) {exit : List ℕ} {s : Sum} {z : Bool} {u v : ℕ} → r ≡ Never k → exit ≡ replicate n 0 → z ≡ zeroSign (modeOf mode) (x .negative) (y .negative) → u ≡ usedOf k 0 (length xl) → v ≡ usedOf k 0 (length yl) → s ≡ sumOf (zeroOf z) p k u v
         → Reported plus (modeOf mode) p (operandOf x xl) (operandOf y yl) exit s
     unfolding operandOf
-    never-reported mode e f us vs h = let d : Differs xl yl (Never k) = rw e at t in cancelled-reported mode p n room (operandOf x xl) (operandOf y yl) l k (d .0) (d .1) f us vs h
+    never-reported mode e f zs us vs h = let d : Differs xl yl (Never k) = rw e at t in cancelled-reported mode p n room (operandOf x xl) (operandOf y yl) l k (d .0) (d .1) f zs us vs h
 
     pub first-ready : r ≡ First k → (operandOf y yl .isZero ≡ false) × Course (operandOf x xl) (operandOf y yl) k × Room p n
     unfolding operandOf

@@ -6,7 +6,6 @@ ghost use mathlib.Core.List.{List};
 ghost use lib.ListN.{length};
 ghost use Rattle.numbers.specs.Operand.{Operand, WellFormed};
 ghost use Rattle.rounding.specs.Mode.{modeOf};
-ghost use Rattle.rounding.specs.Sum.{zeroSign};
 ghost use Rattle.depth.specs.Depth.{plus, minus};
 ghost use Rattle.checks.specs.Number.{operandOf};
 ghost use Rattle.sums.specs.Summed.{Reported, Summed, Rerounded};
@@ -17,14 +16,8 @@ use crate::report::Sum;
 use crate::report::exchanged;
 use crate::report::refused;
 use crate::report::zero;
+use crate::report::zero_sign;
 use checks::Number;
-
-// The sign of a zero sum: one sign stays, and of two it is plus.
-fn zero_sign(mode: u8, a: bool, b: bool) -> bool
-    ensures { λ r. ⌜ r ≡ zeroSign (modeOf mode) a b ⌝ }
-{
-    if a == b { a } else { false }
-}
 
 // Two zeros: nothing is read.
 fn zeros(mode: u8, x: Number, y: Number, p: u64, target: &mut [u64]) -> Sum

@@ -29,6 +29,7 @@ use crate::report::Sum;
 use crate::report::exchanged;
 use crate::report::refused;
 use crate::report::zero;
+use crate::report::zero_sign;
 use checks::Kind;
 use checks::Number;
 use checks::Refusal;
@@ -337,7 +338,8 @@ fn unlike(mode: u8, x: Number, xl: &[u64], y: Number, yl: &[u64], p: u64, target
     match d {
         Differ::Never(k) => {
             run::clear(target);
-            zero(false, p, k, used(k, 0, xl.len()), used(k, 0, yl.len()))
+            let sign = zero_sign(mode, x.negative, y.negative);
+            zero(sign, p, k, used(k, 0, xl.len()), used(k, 0, yl.len()))
         }
         Differ::First(k) => ordered(mode, x, xl, y, yl, p, k, target),
         Differ::Second(k) => exchanged(ordered(mode, y, yl, x, xl, p, k, target)),

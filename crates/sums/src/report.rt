@@ -2,7 +2,9 @@
 ghost use mathlib.Core.Path.{_≡_};
 ghost use lib.ListN.{length, replicate};
 ghost use Rattle.checks.specs.Check.{accepted};
+ghost use Rattle.rounding.specs.Mode.{modeOf};
 ghost use Rattle.rounding.specs.Answer.{zeroOf};
+ghost use Rattle.rounding.specs.Sum.{zeroSign};
 ghost use Rattle.sums.specs.Summed.{refusedSum, sumOf};
 ghost use Rattle.sums.specs.Exchanged.{exchangedSum};
 use checks::Kind;
@@ -37,6 +39,13 @@ pub fn refused(refusal: Refusal, depth: u64, first: u64, second: u64) -> Sum
         second: second,
         refusal: refusal,
     }
+}
+
+// The sign of a zero sum, the one place that says it: one sign stays, and of two it is plus.
+pub fn zero_sign(mode: u8, a: bool, b: bool) -> bool
+    ensures { λ r. ⌜ r ≡ zeroSign (modeOf mode) a b ⌝ }
+{
+    if a == b { a } else { false }
 }
 
 // A zero.

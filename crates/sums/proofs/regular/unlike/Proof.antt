@@ -14,17 +14,20 @@ enum-known-d c = search needs
 clear-requires : tie.Need-clear-requires
 clear-requires c κs = search needs
 
+zero-sign-requires : tie.Need-zero-sign-requires
+zero-sign-requires c κs = search needs
+
 used-requires : tie.Need-used-requires
 used-requires c κs =
-    let b = c .before .before .before .before .before .before .before .before .before .before .before in
-    let a = b .args in
-    never-few (a .x) (a .xl .now) (a .y) (a .yl .now) (a .p) _ (b .pre .1) (b .pre .0) _ (c .before .before .before .before .before .before .before .first-difference .ensures) _ (c .before .before .before .before .before .d .given .1)
-
-used-requires-2 : tie.Need-used-requires-2
-used-requires-2 c κs =
     let b = c .before .before .before .before .before .before .before .before .before .before .before .before in
     let a = b .args in
     never-few (a .x) (a .xl .now) (a .y) (a .yl .now) (a .p) _ (b .pre .1) (b .pre .0) _ (c .before .before .before .before .before .before .before .before .first-difference .ensures) _ (c .before .before .before .before .before .before .d .given .1)
+
+used-requires-2 : tie.Need-used-requires-2
+used-requires-2 c κs =
+    let b = c .before .before .before .before .before .before .before .before .before .before .before .before .before in
+    let a = b .args in
+    never-few (a .x) (a .xl .now) (a .y) (a .yl .now) (a .p) _ (b .pre .1) (b .pre .0) _ (c .before .before .before .before .before .before .before .before .before .first-difference .ensures) _ (c .before .before .before .before .before .before .before .d .given .1)
 
 zero-requires : tie.Need-zero-requires
 zero-requires c κs = search needs
@@ -55,9 +58,9 @@ same-length c = search needs
 
 returns : tie.Need-returns
 returns c =
-    let b = c .before .before .before .before .before .before .before .before .before .before .before .before .before .before in
+    let b = c .before .before .before .before .before .before .before .before .before .before .before .before .before .before .before in
     let a = b .args in
-    never-reported (a .x) (a .xl .now) (a .y) (a .yl .now) (a .p) _ (b .pre .1) (b .pre .0) _ (c .before .before .before .before .before .before .before .before .before .before .first-difference .ensures) _ (a .mode) (c .before .before .before .before .before .before .before .before .d .given .1) (c .before .before .before .before .before .clear .ensures) (c .before .before .used .ensures) (c .before .used2 .ensures) (c .zero .ensures)
+    never-reported (a .x) (a .xl .now) (a .y) (a .yl .now) (a .p) _ (b .pre .1) (b .pre .0) _ (c .before .before .before .before .before .before .before .before .before .before .before .first-difference .ensures) _ (a .mode) (c .before .before .before .before .before .before .before .before .before .d .given .1) (c .before .before .before .before .before .before .clear .ensures) (c .before .before .before .zero-sign .ensures) (c .before .before .used .ensures) (c .before .used2 .ensures) (c .zero .ensures)
 
 same-length-2 : tie.Need-same-length-2
 same-length-2 c = search needs
@@ -81,6 +84,7 @@ unlike-spec =
     first-difference-requires
     enum-known-d
     clear-requires
+    zero-sign-requires
     used-requires
     used-requires-2
     zero-requires

@@ -1,7 +1,7 @@
--- `entry::zero_sign` is the rule for the sign of a zero sum: no mode changes what two signs give. Assumes nothing.
+-- `report::zero_sign` is the rule for the sign of a zero sum: no mode changes what two signs give. Assumes nothing.
 use Rattle.rounding.specs.Sum.{cancelled, zeroSign}
-use Rattle.sums.proofs.entry.zero_sign.Statement.{statement}
-use Rattle.sums.proofs.entry.zero_sign.Tie as tie
+use Rattle.sums.proofs.report.zero_sign.Statement.{statement}
+use Rattle.sums.proofs.report.zero_sign.Tie as tie
 
 returns : tie.Need-returns
 unfolding zeroSign cancelled
