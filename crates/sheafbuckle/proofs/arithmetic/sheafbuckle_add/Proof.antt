@@ -3,33 +3,22 @@ use borrow.Author.Needs.{needs}
 use Rattle.sheafbuckle.proofs.Told.{summed-told}
 use Rattle.sheafbuckle.proofs.arithmetic.sheafbuckle_add.Statement.{statement}
 use Rattle.sheafbuckle.proofs.arithmetic.sheafbuckle_add.Tie as tie
-use Rattle.sheafbuckle.proofs.arithmetic.sheafbuckle_add.Reads as reads
-use Rattle.sheafbuckle.proofs.arithmetic.sheafbuckle_add.Lts as lts
-use Rattle.sheafbuckle.proofs.plain.number_from.Reads as number-from-reads
-use Rattle.sheafbuckle.proofs.plain.plain_sum.Reads as plain-sum-reads
-use Rattle.sums.proofs.add.Reads as add-reads
 
--- src/arithmetic.rt:23:31
 number-from-requires : tie.Need-number-from-requires
 number-from-requires c κs = search needs
 
--- src/arithmetic.rt:23:51
 number-from-requires-2 : tie.Need-number-from-requires-2
 number-from-requires-2 c κs = search needs
 
--- src/arithmetic.rt:23:15
 add-requires : tie.Need-add-requires
 add-requires c κs = search needs
 
--- src/arithmetic.rt:23:5
 plain-sum-requires : tie.Need-plain-sum-requires
 plain-sum-requires c κs = search needs
 
--- src/arithmetic.rt:11:1
 same-length : tie.Need-same-length
 same-length c = search needs
 
--- src/arithmetic.rt:11:1
 returns : tie.Need-returns
 returns c =
     let k = c .before .before .before in

@@ -3,29 +3,19 @@ use borrow.Author.Needs.{needs}
 use Rattle.sheafbuckle.proofs.Told.{rerounded-told}
 use Rattle.sheafbuckle.proofs.arithmetic.sheafbuckle_reround.Statement.{statement}
 use Rattle.sheafbuckle.proofs.arithmetic.sheafbuckle_reround.Tie as tie
-use Rattle.sheafbuckle.proofs.arithmetic.sheafbuckle_reround.Reads as reads
-use Rattle.sheafbuckle.proofs.arithmetic.sheafbuckle_reround.Lts as lts
-use Rattle.sheafbuckle.proofs.plain.number_from.Reads as number-from-reads
-use Rattle.sheafbuckle.proofs.plain.plain_sum.Reads as plain-sum-reads
-use Rattle.sums.proofs.reround.Reads as reround-reads
 
--- src/arithmetic.rt:53:35
 number-from-requires : tie.Need-number-from-requires
 number-from-requires c κs = search needs
 
--- src/arithmetic.rt:53:15
 reround-requires : tie.Need-reround-requires
 reround-requires c κs = search needs
 
--- src/arithmetic.rt:53:5
 plain-sum-requires : tie.Need-plain-sum-requires
 plain-sum-requires c κs = search needs
 
--- src/arithmetic.rt:43:1
 same-length : tie.Need-same-length
 same-length c = search needs
 
--- src/arithmetic.rt:43:1
 returns : tie.Need-returns
 returns c =
     let k = c .before .before .before in

@@ -1,7 +1,4 @@
 -- `plain::kind_from`: by the two cases, as the definition. Assumes nothing.
-use mathlib.Core.Path.{_≡_, refl}
-use mathlib.Core.Bool.{Bool, true, false}
-use borrow.Author.Needs.{needs}
 use Rattle.sheafbuckle.specs.Plain.{kindFrom}
 use Rattle.sheafbuckle.proofs.plain.kind_from.Statement.{statement}
 use Rattle.sheafbuckle.proofs.plain.kind_from.Tie as tie

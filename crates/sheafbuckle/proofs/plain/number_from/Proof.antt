@@ -8,7 +8,6 @@ kind-from-requires : tie.Need-kind-from-requires
 kind-from-requires c κs = search needs
 
 returns : tie.Need-returns
-
 returns c = number-said _ _ _ (c .before .kind-from .ensures) (search needs)
 
 pub number-from-spec : {M : Type 1} → statement M

@@ -1,9 +1,5 @@
 -- `plain::plain_number`: every field is kept, and the bool tells the kind. Assumes nothing.
-use mathlib.Core.Path.{ap}
 use borrow.Author.Needs.{needs}
-use Rattle.checks.specs.declared.Kind.{Kind}
-use Rattle.checks.specs.declared.Number.{Number}
-use Rattle.sheafbuckle.specs.Plain.{numberFrom}
 use Rattle.sheafbuckle.proofs.Told.{number-told}
 use Rattle.sheafbuckle.proofs.plain.plain_number.Statement.{statement}
 use Rattle.sheafbuckle.proofs.plain.plain_number.Tie as tie
@@ -12,7 +8,6 @@ is-zero-requires : tie.Need-is-zero-requires
 is-zero-requires c κs = search needs
 
 returns : tie.Need-returns
-
 returns c = number-told _ _ _ (c .before .is-zero .ensures) (search needs)
 
 pub plain-number-spec : {M : Type 1} → statement M

@@ -8,7 +8,6 @@ plain-number-requires : tie.Need-plain-number-requires
 plain-number-requires c κs = search needs
 
 returns : tie.Need-returns
-
 returns c = sum-told _ _ _ (c .before .before .plain-number .ensures) (search needs)
 
 pub plain-sum-spec : {M : Type 1} → statement M
