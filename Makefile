@@ -12,14 +12,15 @@ CFLAGS ?= -O2 -Wall -Wextra
 VERSION = 0.1.0
 
 archive = target/staticlib/libsheafbuckle.a
+runs = target/staticlib/libbench_run.a
 header = include/sheafbuckle.h
 built = target/c
 sources := $(shell find crates -name '*.rt' -o -name '*.antt')
 
 all: $(archive)
 
-$(archive): crates.txt $(sources)
-	rt staticlib sheafbuckle
+target/staticlib/lib%.a: crates.txt $(sources)
+	rt staticlib $*
 	touch $@
 
 install: $(archive)
@@ -48,7 +49,7 @@ check-install: $(archive)
 	target/stage/enclosure > target/stage/enclosure.out
 	diff examples/c/enclosure.out target/stage/enclosure.out
 
-bench: $(archive)
+bench: $(archive) $(runs)
 	bench/run
 
 .PHONY: all install example check check-install bench

@@ -10,6 +10,9 @@
 
 #include "sheafbuckle.h"
 
+// the kernel's sum of two aligned runs of limbs, exported for this program alone
+bool bench_run_add_into(uint64_t *target, size_t target_count, const uint64_t *operand, size_t operand_count, bool carry);
+
 enum { LIMBS = 64, CASES = 256, MOST_ROUNDS = 1001 };
 
 static const mpfr_rnd_t rounding[4] = {MPFR_RNDN, MPFR_RNDZ, MPFR_RNDU, MPFR_RNDD};
@@ -26,8 +29,9 @@ typedef struct {
     operand x, y;
 } pair;
 
-static pair cases[CASES];
-static size_t case_count;
+static pair sets[2][CASES];
+static pair *cases = sets[0];
+static const size_t case_count = CASES;
 static uint64_t target_precision;
 static size_t target_count;
 static uint64_t target[LIMBS];
@@ -98,7 +102,7 @@ static void exchange(pair *c) {
     c->y = o;
 }
 
-static void make_pair(pair *c, shape s, uint64_t px, uint64_t py, uint64_t pt, int mode) {
+static void make_pair(pair *c, shape s, uint64_t px, uint64_t py, uint64_t pt) {
     bool negative = any() & 1;
     int32_t top = (int32_t)between(-1000, 1000);
     int64_t least = px < py ? (int64_t)px : (int64_t)py;
@@ -107,7 +111,7 @@ static void make_pair(pair *c, shape s, uint64_t px, uint64_t py, uint64_t pt, i
     int64_t gap = 0;
     if (s == NEAR) gap = between(1, least < 63 ? least : 63);
     if (s == FAR) gap = between(most + 66, most + 1066);
-    c->mode = mode < 0 ? (uint8_t)(any() % 4) : (uint8_t)mode;
+    c->mode = (uint8_t)(any() % 4);
     random_operand(&c->x, px, top, negative);
     random_operand(&c->y, py, (int32_t)(top - gap), negative);
     if (s == CANCEL) {
@@ -146,6 +150,49 @@ KERNEL(kernel_subtract, sheafbuckle_subtract(c->mode, c->x.number, c->x.limbs, c
 KERNEL(mpfr_subtracts, sign(mpfr_sub(answer, c->x.mpfr, c->y.mpfr, rounding[c->mode])))
 KERNEL(kernel_reround, sheafbuckle_reround(c->mode, c->x.number, c->x.limbs, c->x.count, target_precision, target, target_count).ternary)
 KERNEL(mpfr_sets, sign(mpfr_set(answer, c->x.mpfr, rounding[c->mode])))
+
+KERNEL(kernel_compare, sheafbuckle_compare(c->x.number, c->x.limbs, c->x.count, c->y.number, c->y.limbs, c->y.count).order)
+KERNEL(mpfr_compares, sign(mpfr_cmp(c->x.mpfr, c->y.mpfr)))
+
+static long bits_of(double d) {
+    long b;
+    memcpy(&b, &d, sizeof b);
+    return b >> 8;
+}
+
+KERNEL(kernel_to_double, bits_of(sheafbuckle_to_double(c->mode, c->x.number, c->x.limbs, c->x.count).value))
+KERNEL(mpfr_to_double, bits_of(mpfr_get_d(c->x.mpfr, rounding[c->mode])))
+
+// runs of limbs: every operand is added into one target, which begins at 0
+static size_t run_count;
+static uint64_t run_target[2][LIMBS];
+
+static long kernel_run(long turns) {
+    long kept = 0;
+    memset(run_target[0], 0, sizeof run_target[0]);
+    for (long t = 0; t < turns; t++)
+        for (size_t i = 0; i < case_count; i++) kept += bench_run_add_into(run_target[0], run_count, cases[i].x.limbs, run_count, false);
+    return kept;
+}
+
+static long gmp_run(long turns) {
+    long kept = 0;
+    memset(run_target[1], 0, sizeof run_target[1]);
+    for (long t = 0; t < turns; t++)
+        for (size_t i = 0; i < case_count; i++) kept += (long)mpn_add_n(run_target[1], run_target[1], cases[i].x.limbs, (mp_size_t)run_count);
+    return kept;
+}
+
+// the kernel on the two sets of cases
+static long own_first(long turns) {
+    cases = sets[0];
+    return kernel_add(turns);
+}
+
+static long own_second(long turns) {
+    cases = sets[1];
+    return kernel_add(turns);
+}
 
 // ---- comparing answers
 
@@ -202,6 +249,24 @@ static sheafbuckle_sum both(operation f, const pair *c) {
     return s;
 }
 
+static void same_order(const pair *c) {
+    sheafbuckle_order o = sheafbuckle_compare(c->x.number, c->x.limbs, c->x.count, c->y.number, c->y.limbs, c->y.count);
+    if (o.rule != 0 || o.order != sign(mpfr_cmp(c->x.mpfr, c->y.mpfr))) differs("compare", c);
+}
+
+// MPFR's answer with 53 bits and its own exponents says where the kernel refuses: by 12 above, by 13 below
+static void same_double(const pair *c) {
+    static mpfr_t selected;
+    static bool begun;
+    if (!begun) mpfr_init2(selected, 53), begun = true;
+    int ternary = mpfr_set(selected, c->x.mpfr, rounding[c->mode]);
+    bool regular = mpfr_regular_p(selected) != 0;
+    int rule = mpfr_overflow_p() || (regular && mpfr_get_exp(selected) > 1024) ? 12 : regular && mpfr_get_exp(selected) < -1021 ? 13 : 0;
+    sheafbuckle_double d = sheafbuckle_to_double(c->mode, c->x.number, c->x.limbs, c->x.count);
+    double expected = rule ? 0.0 : mpfr_get_d(selected, MPFR_RNDN);
+    if (d.rule != rule || d.ternary != (rule ? 0 : sign(ternary)) || memcmp(&d.value, &expected, sizeof expected) != 0) differs("to double", c);
+}
+
 static void set_target(uint64_t precision) {
     target_precision = precision;
     target_count = limbs_for(precision);
@@ -212,7 +277,7 @@ static void set_target(uint64_t precision) {
 
 static double now(void) {
     struct timespec t;
-    clock_gettime(CLOCK_MONOTONIC, &t);
+    clock_gettime(CLOCK_THREAD_CPUTIME_ID, &t); // not the time that other programs take
     return 1e9 * (double)t.tv_sec + (double)t.tv_nsec;
 }
 
@@ -220,6 +285,8 @@ static int by_size(const void *a, const void *b) {
     double x = *(const double *)a, y = *(const double *)b;
     return (x > y) - (x < y);
 }
+
+static int rounds = 101;
 
 static double median(double *a, int n) {
     qsort(a, (size_t)n, sizeof *a, by_size);
@@ -237,7 +304,7 @@ static double timed(loop f, long turns, long *kept) {
 }
 
 // kernel and MPFR by turns, so that what else the machine does falls on both
-static measured measure(loop kernel, loop other, int rounds) {
+static measured measure(loop kernel, loop other, bool alike) {
     static double a[MOST_ROUNDS], b[MOST_ROUNDS], r[MOST_ROUNDS];
     long k, m, turns = 1;
     timed(kernel, 1, &k);
@@ -250,7 +317,7 @@ static measured measure(loop kernel, loop other, int rounds) {
             a[i] = timed(kernel, turns, &k);
             b[i] = timed(other, turns, &m);
         }
-        if (k != m) {
+        if (alike && k != m) {
             fprintf(stderr, "the ternary values differ as the loops are timed\n");
             exit(1);
         }
@@ -261,7 +328,6 @@ static measured measure(loop kernel, loop other, int rounds) {
 
 // ---- rows
 
-static int rounds = 41;
 static int words;
 static char **word;
 
@@ -271,11 +337,10 @@ static bool wanted(const char *name) {
     return true;
 }
 
-static measured row(const char *group, const char *name, double bar, loop kernel, loop other) {
-    measured m = measure(kernel, other, rounds);
+static void row(const char *group, const char *name, double bar, loop kernel, loop other, bool alike) {
+    measured m = measure(kernel, other, alike);
     printf("%s\t%s\t%.1f\t%.1f\t%.2f\t%.1f\n", group, name, m.kernel, m.mpfr, m.ratio, bar);
     fflush(stdout);
-    return m;
 }
 
 static void sum_row(const char *group, operation f, uint64_t px, uint64_t py, uint64_t pt, shape s, double bar) {
@@ -287,11 +352,10 @@ static void sum_row(const char *group, operation f, uint64_t px, uint64_t py, ui
     else
         snprintf(name, sizeof name, "%s %lu,%lu -> %lu, %s", operation_name[f], (unsigned long)px, (unsigned long)py, (unsigned long)pt, shape_name[s]);
     if (!wanted(name)) return;
-    case_count = CASES;
     set_target(pt);
-    for (size_t i = 0; i < case_count; i++) make_pair(&cases[i], s, px, py, pt, -1);
+    for (size_t i = 0; i < case_count; i++) make_pair(&cases[i], s, px, py, pt);
     for (size_t i = 0; i < case_count; i++) both(f, &cases[i]);
-    row(group, name, bar, kernel[f], other[f]);
+    row(group, name, bar, kernel[f], other[f], true);
 }
 
 static void sum_rows(void) {
@@ -309,6 +373,90 @@ static void sum_rows(void) {
             sum_row("mixed", f, 128, 128, 53, s, 3.0);
         }
     sum_row("others", REROUND, 4096, 4096, 53, EQUAL, 2.0);
+}
+
+// the kernel's own times, 4096,4096 -> 53 over 128,128 -> 53
+static void own_rows(void) {
+    for (shape s = EQUAL; s <= FAR; s++) {
+        char name[100];
+        snprintf(name, sizeof name, "add 4096,4096 -> 53 over 128,128 -> 53, %s", shape_name[s]);
+        if (!wanted(name)) continue;
+        set_target(53);
+        for (size_t i = 0; i < case_count; i++) {
+            make_pair(&sets[0][i], s, 4096, 4096, 53);
+            make_pair(&sets[1][i], s, 128, 128, 53);
+        }
+        row("own", name, 1.3, own_first, own_second, false);
+        cases = sets[0];
+    }
+}
+
+static void order_rows(void) {
+    static const uint64_t precision[] = {53, 128, 1024, 4096};
+    for (size_t i = 0; i < sizeof precision / sizeof *precision; i++)
+        for (shape s = EQUAL; s <= CANCEL; s++) {
+            uint64_t p = precision[i];
+            char name[100];
+            snprintf(name, sizeof name, "compare %lu,%lu, %s", (unsigned long)p, (unsigned long)p, shape_name[s]);
+            if (s == FAR || !wanted(name)) continue;
+            for (size_t j = 0; j < case_count; j++) {
+                make_pair(&cases[j], s, p, p, p);
+                same_order(&cases[j]);
+            }
+            row("others", name, p < 1024 ? 3.0 : 2.0, kernel_compare, mpfr_compares, true);
+        }
+}
+
+static void double_rows(void) {
+    static const uint64_t precision[] = {2, 53, 64, 128, 1024, 4096};
+    for (size_t i = 0; i < sizeof precision / sizeof *precision; i++) {
+        char name[100];
+        snprintf(name, sizeof name, "to double %lu", (unsigned long)precision[i]);
+        if (!wanted(name)) continue;
+        for (size_t j = 0; j < case_count; j++) {
+            make_pair(&cases[j], EQUAL, precision[i], precision[i], 53);
+            mpfr_clear_flags();
+            same_double(&cases[j]);
+        }
+        row("others", name, 1.0, kernel_to_double, mpfr_to_double, true);
+    }
+}
+
+static void run_rows(void) {
+    static const size_t count[] = {1, 2, 4, 16, 64};
+    for (size_t i = 0; i < sizeof count / sizeof *count; i++) {
+        char name[100];
+        run_count = count[i];
+        snprintf(name, sizeof name, "aligned run of %lu limbs", (unsigned long)run_count);
+        if (!wanted(name)) continue;
+        for (size_t j = 0; j < case_count; j++) make_pair(&cases[j], EQUAL, 4096, 4096, 53);
+        if (kernel_run(1) != gmp_run(1) || memcmp(run_target[0], run_target[1], 8 * run_count) != 0) {
+            fprintf(stderr, "the answers differ: %s\n", name);
+            exit(1);
+        }
+        row("runs", name, run_count < 16 ? 3.0 : 2.0, kernel_run, gmp_run, true);
+    }
+}
+
+// sums that a given column fixes: the digits below the last one kept are ones down to the column before
+static void depth_rows(void) {
+    for (uint64_t depth = 1; depth <= 64; depth *= 2) {
+        char name[100];
+        snprintf(name, sizeof name, "add 4096,4096 -> 53, depth %lu", (unsigned long)depth);
+        if (!wanted(name)) continue;
+        set_target(53);
+        for (size_t i = 0; i < case_count; i++) {
+            pair *c = &cases[i];
+            do {
+                make_pair(c, EQUAL, 4096, 4096, 53);
+                if (depth > 1) {
+                    c->y.limbs[63] = (c->y.limbs[63] & ~(uint64_t)0xfff) | (~c->x.limbs[63] & 0xfff);
+                    for (uint64_t k = 1; k + 1 < depth; k++) c->y.limbs[63 - k] = ~c->x.limbs[63 - k];
+                }
+            } while (both(ADD, c).depth != depth);
+        }
+        row("depth", name, 0, kernel_add, mpfr_adds, true);
+    }
 }
 
 // ---- answers compared, untimed: every precision, gaps of all sizes, runs of ones and zeros, the ends of the exponents
@@ -338,8 +486,15 @@ static void compare_answers(long count) {
         share(&c.y);
         set_target(p[2]);
         for (operation f = ADD; f <= REROUND; f++) both(f, &c);
+        same_order(&c);
+        if (!c.x.number.zero && any() % 4) {
+            c.x.number.exponent = (int32_t)(any() % 2 ? between(-1100, 1100) : any() % 2 ? between(1023, 1025) : between(-1023, -1020));
+            share(&c.x);
+        }
+        mpfr_clear_flags();
+        same_double(&c);
     }
-    printf("compared\t%ld\n", 3 * count);
+    printf("compared\t%ld\n", 5 * count);
     fflush(stdout);
 }
 
@@ -349,7 +504,14 @@ int main(int argc, char **argv) {
     words = argc > 2 ? argc - 2 : 0;
     word = argv + 2;
     mpfr_init2(answer, 4096);
+    printf("versions\tMPFR %s, GMP %s\n", mpfr_get_version(), gmp_version);
+    printf("rounds\t%d\n", rounds);
     compare_answers(100000);
     sum_rows();
+    own_rows();
+    order_rows();
+    double_rows();
+    run_rows();
+    depth_rows();
     return 0;
 }
