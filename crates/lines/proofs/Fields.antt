@@ -11,7 +11,7 @@ use lib.IntN.{ℤ, pos, negsuc}
 use mir.Syntax.{w32}
 use mir.Val.{SFits, toZ, ofZ}
 use mir.Facts.{toZ-ofZ}
-use lib.ListN.{length, take, drop, getD, length-drop}
+use lib.ListN.{length, take, drop, getD, set, length-drop}
 use lib.Seq.{take-take, length-take-le}
 use borrow.Author.Tests.{lt-ltb, le-ltb, le-leb, eq-eqb, ne-eqb}
 use Rattle.numbers.specs.Limits.{bias}
@@ -23,7 +23,7 @@ use Rattle.checks.specs.Check.{formHolds, topBitHolds, spareBitsHold}
 use Rattle.checks.proofs.Tables.{both}
 use Rattle.text.specs.Digits.{allDigits, worth}
 use Rattle.text.proofs.Digits.{digits-take, digits-drop}
-use Rattle.text.proofs.Numeral.{worth-lt}
+use Rattle.text.proofs.Numeral.{worth-lt, drop-set}
 use Rattle.lines.specs.Line.{lineFeed, shortestLine}
 use Rattle.lines.specs.Reading.{field, kindIn, signedOf, negativeOf, kindOf, numberIn, limbsIn, digitsHold}
 
@@ -138,3 +138,17 @@ module _ (line : List ℕ) where
 pub form-ends : (x : Number) (l : List ℕ) (low top : ℕ) → getD l 0 0 ≡ low → getD l (length l - 1) 0 ≡ top → formHolds (operandOf x (low ∷ top ∷ [])) ≡ formHolds (operandOf x l)
 unfolding formHolds operandOf topBitHolds spareBitsHold
 form-ends x l low top a b = rw (a, b)
+
+pub form-line : (x : Number) (line : List ℕ) (n low top : ℕ) → 0 < n → length line ≡ shortestLine + 16 * n → low ≡ field (length line - 17) 16 line → top ≡ field 14 16 line → formHolds (operandOf x (low ∷ top ∷ [])) ≡ formHolds (operandOf x (limbsIn n line))
+form-line x line n low top h e a b =
+    let k : 14 + 16 * (n - 1) ≡ length line - 17 = omega (arith, shortest-is) in
+    form-ends x (limbsIn n line) low top (low-limb line n h ∙ ap (λ (m : ℕ). field m 16 line) k ∙ sym a) (rw (length-limbs line n) (top-limb line n h ∙ sym b))
+
+-- one limb more, below the first n
+pub limb-more : (line target : List ℕ) (i j n m at v : ℕ) → j < length target → i ≡ suc j → m ≡ suc n → at ≡ 14 + 16 * n → v ≡ field at 16 line → drop i target ≡ limbsIn n line → drop j (set target j v) ≡ limbsIn m line
+unfolding limbsIn
+limb-more line target i j n m at v h a b e f d = rw (b, drop-set target j v h, f, e) (ap (λ (l : List ℕ). field (14 + 16 * n) 16 line ∷ l) (rw a at d))
+
+pub no-limbs : (line : List ℕ) → [] ≡ limbsIn 0 line
+unfolding limbsIn
+no-limbs line = refl

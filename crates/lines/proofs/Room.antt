@@ -4,12 +4,17 @@ use mathlib.Core.List.{List, [], _∷_, _++_, append-assoc, append-nil}
 use Prim.Native.Nat.{ℕ, suc, _+_, _-_, _*_, _<_, _≤_}
 use native.Mathlib.Numerals.{add-one}
 use native.Mathlib.Omega.{arith}
-use lib.ListN.{length, take, drop, set, getD, length-append, drop-of-length-le}
-use lib.Seq.{take-at, drop-at, drop-append-add, drop-drop, drop-cons, set-at}
+use lib.ListN.{length, take, drop, set, getD, length-append, length-drop, drop-of-length-le}
+use lib.Seq.{length-take-le, take-at, drop-at, drop-append-add, drop-drop, drop-cons, set-at}
 use borrow.Rule.Slice.PartMut.{putMid, post-is}
+use lib.IntN.{ℤ, pos, negsuc}
+use mir.Syntax.{w32}
+use mir.Val.{SFits}
+use Rattle.numbers.specs.Limits.{bias, counted}
+use Rattle.checks.specs.declared.Number.{Number}
 use Rattle.text.specs.Digits.{numeral}
-use Rattle.text.proofs.Numeral.{length-numeral}
-use Rattle.lines.specs.Line.{limbDigits}
+use Rattle.text.proofs.Numeral.{length-numeral, numeral-low}
+use Rattle.lines.specs.Line.{kindByte, twosComplement, headDigits, limbDigits}
 use Rattle.lines.specs.Writing.{onto}
 
 pub onto-nothing : (r : List ℕ) → r ≡ onto [] r
@@ -22,6 +27,12 @@ unfolding onto
 put-onto s t r a e h g =
     rw (post-is a e (s ++ drop (length s) r) (omega arith), h, take-at s (drop (length s) r) (length s) refl, g, h, drop-append-add s (drop (length s) r) (length t), drop-drop (length t) (length s) r, length-append s t)
     (sym (append-assoc s t (drop (length s + length t) r)))
+
+-- the next part, as digits of a number
+pub put-numeral : (room s r t : List ℕ) (a e k v : ℕ) → room ≡ onto s r → a ≡ length s → e ≡ a + k → e ≤ length room → t ≡ numeral (length (take (e - a) (drop a room))) v → putMid a (e - a) room t ≡ onto (s ++ numeral k v) r
+put-numeral room s r t a e k v h l g f d =
+    let n : length (take (e - a) (drop a room)) ≡ k = length-take-le (e - a) (drop a room) (simp length-drop (omega arith)) ∙ omega arith in
+    rw (d, n, h) (put-onto s (numeral k v) r a e l (rw length-numeral g))
 
 -- the next byte
 pub set-onto : (s r : List ℕ) (a v : ℕ) → a ≡ length s → a < length r → set (onto s r) a v ≡ onto (s ++ v ∷ []) r
@@ -44,3 +55,16 @@ length-limb-digits (v ∷ l) = rw (length-append (limbDigits l) (numeral 16 v), 
 pub limbs-more : (l : List ℕ) (i j : ℕ) → j < length l → i ≡ suc j → limbDigits (drop j l) ≡ limbDigits (drop i l) ++ numeral 16 (getD l j 0)
 unfolding limbDigits
 limbs-more l i j h e = rw (drop-cons l j 0 h, e)
+
+-- an exponent's last 32 bits, however it is counted
+pub counted-word : (e : ℤ) → SFits w32 e → numeral 8 (counted e) ≡ numeral 8 (twosComplement e)
+unfolding counted bias twosComplement
+counted-word (pos n) h = numeral-low 8 256 n
+counted-word (negsuc n) h = ap (numeral 8) below ∙ numeral-low 8 255 (4294967296 - suc n)
+  where
+    below : 1099511627776 - suc n ≡ 255 * 4294967296 + (4294967296 - suc n)
+    below = omega arith
+
+pub head-parts : (x : Number) (r : List ℕ) (k e : ℕ) → SFits w32 (x .exponent) → k ≡ kindByte (x .kind) (x .negative) → e ≡ counted (x .exponent) → onto ((numeral 2 k ++ numeral 4 (x .precision)) ++ numeral 8 e) r ≡ onto (headDigits x) r
+unfolding headDigits
+head-parts x r k e f g h = rw (g, h, counted-word (x .exponent) f, append-assoc (numeral 2 (kindByte (x .kind) (x .negative))) (numeral 4 (x .precision)) (numeral 8 (twosComplement (x .exponent))))

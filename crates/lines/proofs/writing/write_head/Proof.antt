@@ -1,3 +1,9 @@
+-- `lines::writing::write_head`: three parts, each after the one before. Assumes nothing.
+use native.Mathlib.Omega.{arith}
+use mathlib.Core.Path.{_≡_, refl, sym, _∙_}
+use mathlib.Core.List.{List, [], _++_}
+use Rattle.lines.proofs.Fields.{shortest-is}
+use Rattle.lines.proofs.Room.{onto-nothing, put-numeral, head-parts}
 use borrow.Author.Needs.{needs}
 use Rattle.lines.proofs.writing.write_head.Statement.{statement}
 use Rattle.lines.proofs.writing.write_head.Tie as tie
@@ -17,7 +23,7 @@ part-write-digits-start c = search needs
 
 -- src/writing.rt:28:24
 part-write-digits-end : tie.Need-part-write-digits-end
-part-write-digits-end c = ?
+part-write-digits-end c = omega (arith, shortest-is)
 
 -- src/writing.rt:28:41
 kind-byte-requires : tie.Need-kind-byte-requires
@@ -37,7 +43,7 @@ part-write-digits-start-2 c = search needs
 
 -- src/writing.rt:29:24
 part-write-digits-end-2 : tie.Need-part-write-digits-end-2
-part-write-digits-end-2 c = ?
+part-write-digits-end-2 c = omega (arith, shortest-is)
 
 -- src/writing.rt:29:5
 write-digits-requires-2 : tie.Need-write-digits-requires-2
@@ -53,7 +59,7 @@ part-write-digits-start-3 c = search needs
 
 -- src/writing.rt:30:24
 part-write-digits-end-3 : tie.Need-part-write-digits-end-3
-part-write-digits-end-3 c = ?
+part-write-digits-end-3 c = omega (arith, shortest-is)
 
 -- src/writing.rt:30:42
 counted-exponent-requires : tie.Need-counted-exponent-requires

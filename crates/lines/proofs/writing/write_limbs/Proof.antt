@@ -1,3 +1,13 @@
+-- `lines::writing::write_limbs`: from the top down, the digits of the limbs passed stand at the start. Assumes nothing.
+use native.Mathlib.Omega.{arith}
+use mathlib.Core.Path.{_≡_, refl, sym, ap, _∙_}
+use mathlib.Core.List.{List, []}
+use Prim.Native.Nat.{ℕ, suc, _+_, _-_, _*_, _≤_}
+use lib.ListN.{length, drop, getD}
+use lib.Seq.{drop-length}
+use Rattle.lines.specs.Line.{limbDigits}
+use Rattle.lines.specs.Writing.{onto}
+use Rattle.lines.proofs.Room.{onto-nothing, put-numeral, onto-all, length-limb-digits, limbs-more}
 use borrow.Author.Needs.{needs}
 use Rattle.lines.proofs.writing.write_limbs.Statement.{statement}
 use Rattle.lines.proofs.writing.write_limbs.Tie as tie
@@ -6,10 +16,11 @@ use Rattle.lines.proofs.writing.write_limbs.Lts as lts
 use Rattle.text.proofs.write_digits.Reads as write-digits-reads
 
 abbrev Inv-loop : tie.InvT-loop
-Inv-loop limbs part₀ i₀ at₀ part i at = ?
+Inv-loop limbs part₀ i₀ at₀ part i at = 
+    (i ≤ length limbs) × (length part ≡ length part₀) × (at + 16 * i ≡ 16 * length limbs) × (part ≡ onto (limbDigits (drop i limbs)) part₀)
 
 abbrev μ-loop : tie.MeasureT-loop
-μ-loop limbs part₀ i₀ at₀ part i at = ?
+μ-loop limbs part₀ i₀ at₀ part i at = i
 
 -- src/writing.rt:40:5
 loop-holds : tie.Need-loop-holds Inv-loop μ-loop
