@@ -65,6 +65,9 @@ counted-word (negsuc n) h = ap (numeral 8) below ∙ numeral-low 8 255 (42949672
     below : 1099511627776 - suc n ≡ 255 * 4294967296 + (4294967296 - suc n)
     below = omega arith
 
+pub two-lengths : (k p : ℕ) → 6 ≡ length (numeral 2 k ++ numeral 4 p)
+two-lengths k p = sym (length-append (numeral 2 k) (numeral 4 p) ∙ rw (length-numeral 2 k, length-numeral 4 p))
+
 pub head-parts : (x : Number) (r : List ℕ) (k e : ℕ) → SFits w32 (x .exponent) → k ≡ kindByte (x .kind) (x .negative) → e ≡ counted (x .exponent) → onto ((numeral 2 k ++ numeral 4 (x .precision)) ++ numeral 8 e) r ≡ onto (headDigits x) r
 unfolding headDigits
 head-parts x r k e f g h = rw (g, h, counted-word (x .exponent) f, append-assoc (numeral 2 (kindByte (x .kind) (x .negative))) (numeral 4 (x .precision)) (numeral 8 (twosComplement (x .exponent))))

@@ -1,4 +1,12 @@
 -- `lines::writing::write_head`: three parts, each after the one before. Assumes nothing.
+use mir.Facts.{toZ-ofZ}
+use mir.Val.{SFits}
+use mir.Syntax.{w32}
+use Rattle.lines.proofs.Room.{two-lengths}
+use Prim.Native.Nat.{ℕ, _≤_}
+use lib.ListN.{length}
+use Rattle.text.specs.Digits.{numeral}
+use Rattle.text.proofs.Numeral.{length-numeral}
 use native.Mathlib.Omega.{arith}
 use mathlib.Core.Path.{_≡_, refl, sym, _∙_}
 use mathlib.Core.List.{List, [], _++_}
@@ -75,7 +83,15 @@ same-length c = search needs
 
 -- src/writing.rt:23:1
 returns : tie.Need-returns
-returns c = ?
+returns c =
+    let a = c .before .before .before .before .before .before .before .before .before .before .before .before .before .before .before .before .args in
+    let r : List ℕ = a .room .now in
+    let k = c .before .before .before .before .before .before .before .before .before .before .before .before .before .kind-byte in
+    let k1 = put-numeral r [] r _ 0 2 2 (k .result) (onto-nothing r) refl refl (omega (arith, shortest-is)) (c .before .before .before .before .before .before .before .before .before .before .before .before .write-digits .ensures) in
+    let k2 = put-numeral _ (numeral 2 (k .result)) r _ 2 6 4 (a .x .precision) k1 (sym (length-numeral 2 _)) refl (omega (arith, shortest-is)) (c .before .before .before .before .before .before .before .before .write-digits2 .ensures) in
+    let k3 = put-numeral _ _ r _ 6 14 8 (c .before .before .before .counted-exponent .result) k2 (two-lengths (k .result) (a .x .precision)) refl (omega (arith, shortest-is)) (c .before .before .write-digits3 .ensures) in
+    let f : SFits w32 (a .x .exponent) = record { sfits = c .before .before .before .before .struct-told .given .1 .1 .1 .0 .1 } in
+    k3 ∙ head-parts (a .x) r _ _ f (k .ensures) (rw (toZ-ofZ f) at (c .before .before .before .counted-exponent .ensures))
 
 pub write-head-spec : {M : Type 1} → statement M
 write-head-spec =
