@@ -2,3 +2,4 @@ pub mod Fields
 pub mod Tests
 pub mod Room
 pub mod Size
+pub mod Answered

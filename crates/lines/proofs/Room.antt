@@ -70,4 +70,4 @@ two-lengths k p = sym (length-append (numeral 2 k) (numeral 4 p) ∙ rw (length-
 
 pub head-parts : (x : Number) (r : List ℕ) (k e : ℕ) → SFits w32 (x .exponent) → k ≡ kindByte (x .kind) (x .negative) → e ≡ counted (x .exponent) → onto ((numeral 2 k ++ numeral 4 (x .precision)) ++ numeral 8 e) r ≡ onto (headDigits x) r
 unfolding headDigits
-head-parts x r k e f g h = rw (g, h, counted-word (x .exponent) f, append-assoc (numeral 2 (kindByte (x .kind) (x .negative))) (numeral 4 (x .precision)) (numeral 8 (twosComplement (x .exponent))))
+head-parts x r k e f g h = rw (g, h, counted-word (x .exponent) f)
