@@ -3,3 +3,4 @@ pub mod Tests
 pub mod Room
 pub mod Size
 pub mod Answered
+pub mod Accepted

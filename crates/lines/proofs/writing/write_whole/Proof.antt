@@ -1,4 +1,5 @@
 -- `lines::writing::write_whole`: the head, the limbs of a regular number, LF. Assumes nothing.
+use lib.ListN.{length-set}
 use native.Mathlib.Omega.{arith}
 use mathlib.Core.Path.{refl, sym, _∙_}
 use Rattle.lines.proofs.Fields.{shortest-is}
@@ -73,7 +74,7 @@ slice-write-room-2 c =
 
 -- src/writing.rt:49:1
 same-length-2 : tie.Need-same-length-2
-same-length-2 c = ?
+same-length-2 c = simp length-set (omega arith)
 
 -- src/writing.rt:49:1
 returns-2 : tie.Need-returns-2
