@@ -254,17 +254,60 @@ static void same_order(const pair *c) {
     if (o.rule != 0 || o.order != sign(mpfr_cmp(c->x.mpfr, c->y.mpfr))) differs("compare", c);
 }
 
-// MPFR's answer with 53 bits and its own exponents says where the kernel refuses: by 12 above, by 13 below
+// a double under a mode, with 53 bits and MPFR's own exponents: these say where the kernel refuses, by 12 above and by 13 below
+typedef struct {
+    double value;
+    int ternary, rule;
+} selected;
+
+static mpfr_t fifty_three;
+
+static selected select_double(const operand *o, int mode) {
+    mpfr_clear_flags();
+    int ternary = mpfr_set(fifty_three, o->mpfr, rounding[mode]);
+    if (mpfr_overflow_p()) return (selected){0.0, 0, 12};
+    if (mpfr_regular_p(fifty_three) && mpfr_get_exp(fifty_three) > 1024) return (selected){0.0, 0, 12};
+    if (mpfr_regular_p(fifty_three) && mpfr_get_exp(fifty_three) < -1021) return (selected){0.0, 0, 13};
+    return (selected){mpfr_get_d(fifty_three, MPFR_RNDN), sign(ternary), 0};
+}
+
+static bool same_bits(double a, double b) { return memcmp(&a, &b, sizeof a) == 0; }
+
 static void same_double(const pair *c) {
-    static mpfr_t selected;
-    static bool begun;
-    if (!begun) mpfr_init2(selected, 53), begun = true;
-    int ternary = mpfr_set(selected, c->x.mpfr, rounding[c->mode]);
-    bool regular = mpfr_regular_p(selected) != 0;
-    int rule = mpfr_overflow_p() || (regular && mpfr_get_exp(selected) > 1024) ? 12 : regular && mpfr_get_exp(selected) < -1021 ? 13 : 0;
+    selected s = select_double(&c->x, c->mode);
     sheafbuckle_double d = sheafbuckle_to_double(c->mode, c->x.number, c->x.limbs, c->x.count);
-    double expected = rule ? 0.0 : mpfr_get_d(selected, MPFR_RNDN);
-    if (d.rule != rule || d.ternary != (rule ? 0 : sign(ternary)) || memcmp(&d.value, &expected, sizeof expected) != 0) differs("to double", c);
+    if (d.rule != s.rule || d.place != 0 || d.ternary != s.ternary || !same_bits(d.value, s.value)) differs("to double", c);
+}
+
+static void same_pair(const pair *c) {
+    selected down = select_double(&c->x, SHEAFBUCKLE_DOWN), up = select_double(&c->x, SHEAFBUCKLE_UP);
+    int rule = down.rule ? down.rule : up.rule;
+    sheafbuckle_pair e = sheafbuckle_enclose(c->x.number, c->x.limbs, c->x.count);
+    if (e.rule != rule || !same_bits(e.lower, rule ? 0.0 : down.value) || !same_bits(e.upper, rule ? 0.0 : up.value)) differs("enclosing pair", c);
+}
+
+static void same_read(const pair *c, double d) {
+    uint64_t limb = 5;
+    sheafbuckle_read r = sheafbuckle_from_double(d, &limb, 1);
+    mpfr_set_d(fifty_three, d, MPFR_RNDN);
+    if (!mpfr_number_p(fifty_three)) {
+        if (r.rule != 14 || r.place != 1 || limb != 5) differs("from double", c);
+        return;
+    }
+    bool zero = mpfr_zero_p(fifty_three) != 0;
+    if (r.rule != 0 || r.number.precision != 53 || r.number.zero != zero || r.number.negative != (mpfr_signbit(fifty_three) != 0)) differs("from double", c);
+    if (r.number.exponent != (zero ? 0 : mpfr_get_exp(fifty_three))) differs("from double", c);
+    if (limb != (zero ? 0 : *(uint64_t *)mpfr_custom_get_significand(fifty_three))) differs("from double", c);
+}
+
+static double any_double(void) {
+    uint64_t bits = any();
+    double d;
+    if (any() % 8 == 0) bits &= ~((uint64_t)0x7ff << 52); // subnormal
+    if (any() % 8 == 0) bits |= (uint64_t)0x7ff << 52; // infinite or NaN
+    if (any() % 8 == 0) bits = bits >> 52 << 52; // no fraction
+    memcpy(&d, &bits, sizeof d);
+    return d;
 }
 
 static void set_target(uint64_t precision) {
@@ -415,7 +458,6 @@ static void double_rows(void) {
         if (!wanted(name)) continue;
         for (size_t j = 0; j < case_count; j++) {
             make_pair(&cases[j], EQUAL, precision[i], precision[i], 53);
-            mpfr_clear_flags();
             same_double(&cases[j]);
         }
         row("others", name, 1.0, kernel_to_double, mpfr_to_double, true);
@@ -491,10 +533,11 @@ static void compare_answers(long count) {
             c.x.number.exponent = (int32_t)(any() % 2 ? between(-1100, 1100) : any() % 2 ? between(1023, 1025) : between(-1023, -1020));
             share(&c.x);
         }
-        mpfr_clear_flags();
         same_double(&c);
+        same_pair(&c);
+        same_read(&c, any_double());
     }
-    printf("compared\t%ld\n", 5 * count);
+    printf("compared\t%ld\n", 7 * count);
     fflush(stdout);
 }
 
@@ -504,6 +547,7 @@ int main(int argc, char **argv) {
     words = argc > 2 ? argc - 2 : 0;
     word = argv + 2;
     mpfr_init2(answer, 4096);
+    mpfr_init2(fifty_three, 53);
     printf("versions\tMPFR %s, GMP %s\n", mpfr_get_version(), gmp_version);
     printf("rounds\t%d\n", rounds);
     compare_answers(100000);

@@ -41,16 +41,20 @@ typedef struct {
 #define SHEAFBUCKLE_ACCEPTED 0
 #define SHEAFBUCKLE_MODE 1 // mode above 3
 #define SHEAFBUCKLE_PRECISION 2 // a precision out of range
-#define SHEAFBUCKLE_LENGTH 3 // a limb count other than ceil(precision / 64)
+#define SHEAFBUCKLE_LENGTH 3 // a limb count other than ceil(precision / 64); a line's room too short
 #define SHEAFBUCKLE_EXPONENT 4 // an exponent out of range, or a zero's exponent not 0
 #define SHEAFBUCKLE_FORM 5 // a regular number with top bit 0 or a spare bit 1
 #define SHEAFBUCKLE_TOO_LARGE 6 // the selected exponent is above the range
 #define SHEAFBUCKLE_TOO_SMALL 7 // the selected exponent is below the range
+#define SHEAFBUCKLE_SIZE 8 // a line of wrong size
+#define SHEAFBUCKLE_BYTE 9 // a line's byte not 0-9 or a-f, or its last byte not LF
+#define SHEAFBUCKLE_KIND 10 // a line's kind byte above 3
 #define SHEAFBUCKLE_BEYOND_DOUBLES 12 // the selected double is beyond the largest finite one
 #define SHEAFBUCKLE_BELOW_DOUBLES 13 // the selected non-zero double is below 2^-1022 in size
 #define SHEAFBUCKLE_NO_NUMBER 14 // a double that is infinite or NaN
 
-// Places: 0 the mode, and rules 12 and 13; 1 the first or only operand; 2 the second; 3 the target.
+// Places: 0 the mode, and rules 12 and 13; 1 the first or only operand, line or double; 2 the second; 3 the target or a
+// line's room.
 
 // What a sum answers: the number, whose limbs are in the target; the depth, which is the fewest 64-bit columns, counted from
 // the top of the larger operand, that fix the answer whatever stands in the others; the limbs used of the first operand and
@@ -151,7 +155,7 @@ typedef struct {
 //     sheafbuckle_enclose(x, &x_limb, 1)  // lower 1.0, upper 1.0 + 2^-52
 sheafbuckle_pair sheafbuckle_enclose(sheafbuckle_number x, const uint64_t *x_limbs, size_t x_count);
 
-// The number of a double, and the refusal.
+// The number of a double or of a line, and the refusal.
 typedef struct {
     sheafbuckle_number number;
     uint8_t rule;
@@ -177,6 +181,42 @@ typedef struct {
 //     uint64_t limbs[3] = {0, 7, 0};
 //     sheafbuckle_trim(limbs, 3)  // start 1, count 2
 sheafbuckle_run sheafbuckle_trim(const uint64_t *limbs, size_t count);
+
+// The bytes of a zero's line and of the longest line, LF included.
+#define SHEAFBUCKLE_SHORTEST_LINE 15
+#define SHEAFBUCKLE_LONGEST_LINE 1039
+
+// How many bytes were written, and the refusal.
+typedef struct {
+    size_t count;
+    uint8_t rule;
+    uint8_t place;
+} sheafbuckle_written;
+
+// Writes x as one line of lowercase hexadecimal, ending in LF, from the room's start on: kind byte (00 positive, 01 negative,
+// 02 +0, 03 -0), precision in two bytes, exponent in four (two's complement), then a regular number's limbs, top first. No
+// byte past the line changes, and no 0 is put after it. Refuses by rules 2 to 5, then by 3 (place 3) where the room is too
+// short; the count is 0 then and the room is as it was. Example:
+//
+//     uint8_t room[SHEAFBUCKLE_LONGEST_LINE];
+//     sheafbuckle_write_line(one, &limb, 1, room, sizeof room)
+//     // count 31, room "000035000000018000000000000000" and LF
+sheafbuckle_written sheafbuckle_write_line(sheafbuckle_number x, const uint64_t *x_limbs, size_t x_count, uint8_t *room,
+                                           size_t room_count);
+
+// The number that a line holds, without its limbs: its precision says how many limbs sheafbuckle_read_line needs. Checks, in
+// this order: at least 15 bytes (8), digits and LF (9), kind (10), precision (2), exact size (8), exponent (4); place 1. The
+// number is +0 of precision 2 then. Does not look at the limbs' form. Writes nothing. Example:
+//
+//     sheafbuckle_read_head(room, 31)  // number {53, 1, false, false}
+sheafbuckle_read sheafbuckle_read_head(const uint8_t *line, size_t line_count);
+
+// The number that a line holds, its limbs into the target, all 0 for a zero. Checks what sheafbuckle_read_head does, then the
+// target's count (3, place 3), then the limbs' form (5, place 1). Refused, the number is +0 of precision 2 and the target is as
+// it was. A line that is accepted is the line that sheafbuckle_write_line gives for the number. Example:
+//
+//     sheafbuckle_read_line(room, 31, &target, 1)  // number {53, 1, false, false}, target 2^63
+sheafbuckle_read sheafbuckle_read_line(const uint8_t *line, size_t line_count, uint64_t *target, size_t target_count);
 
 #ifdef __cplusplus
 }

@@ -2,6 +2,7 @@
 #include <math.h>
 #include <sheafbuckle.h>
 #include <stdio.h>
+#include <string.h>
 
 static int wrong;
 
@@ -88,6 +89,27 @@ int main(void) {
     t = sheafbuckle_trim(limbs, 1);
     SAME(t.start, 1);
     SAME(t.count, 0);
+
+    uint8_t room[SHEAFBUCKLE_LONGEST_LINE] = {0};
+    sheafbuckle_written w = sheafbuckle_write_line(one, &limb, 1, room, sizeof room);
+    SAME(w.count, 31);
+    SAME(w.rule, 0);
+    SAME(memcmp(room, "000035000000018000000000000000\n\0", 32), 0);
+    w = sheafbuckle_write_line(one, &limb, 1, room, 30);
+    SAME(w.count, 0);
+    SAME(w.rule, SHEAFBUCKLE_LENGTH);
+    SAME(w.place, 3);
+    r = sheafbuckle_read_head(room, 31);
+    NUMBER(r.number, {53, 1, false, false});
+    SAME(r.rule, 0);
+    r = sheafbuckle_read_line(room, 31, &target, 1);
+    NUMBER(r.number, {53, 1, false, false});
+    SAME(target, 1ull << 63);
+    r = sheafbuckle_read_line(room, 30, &target, 1);
+    NUMBER(r.number, {2, 0, false, true});
+    SAME(r.rule, SHEAFBUCKLE_BYTE);
+    SAME(r.place, 1);
+    SAME(target, 1ull << 63);
 
     printf("%d wrong\n", wrong);
     return wrong != 0;

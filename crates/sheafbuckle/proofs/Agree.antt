@@ -11,6 +11,8 @@ use Rattle.checks.specs.declared.Kind.the-variants.{Regular, Zero}
 use Rattle.checks.specs.Number.{isZeroKind}
 use Rattle.doubles.specs.declared.Enclosed.{Enclosed}
 use Rattle.doubles.specs.declared.FromDouble.{FromDouble}
+use Rattle.lines.specs.declared.Head.{Head}
+use Rattle.lines.specs.declared.Written.{Written}
 use Rattle.depth.specs.Depth.{Operation}
 use Rattle.run.specs.Trimmed.{trimmed}
 use Rattle.sums.specs.declared.report.Sum.{Sum}
@@ -19,10 +21,11 @@ use Rattle.sums.proofs.Agree.{summed-unique, rerounded-unique}
 use Rattle.sheafbuckle.specs.declared.plain.PlainNumber.{PlainNumber}
 use Rattle.sheafbuckle.specs.declared.plain.PlainSum.{PlainSum}
 use Rattle.sheafbuckle.specs.declared.conversion.PlainPair.{PlainPair}
-use Rattle.sheafbuckle.specs.declared.conversion.PlainRead.{PlainRead}
+use Rattle.sheafbuckle.specs.declared.plain.PlainRead.{PlainRead}
 use Rattle.sheafbuckle.specs.declared.limbs.PlainRun.{PlainRun}
 use Rattle.sheafbuckle.specs.Plain.{kindFrom, numberFrom, sumFrom}
-use Rattle.sheafbuckle.specs.Answers.{enclosedFrom, readFrom}
+use Rattle.sheafbuckle.specs.declared.stored.PlainWritten.{PlainWritten}
+use Rattle.sheafbuckle.specs.Answers.{enclosedFrom, readFrom, headFrom, writtenFrom}
 
 -- the fields that a number, a sum, a pair or a read number is told by
 numberPlain : Number → PlainNumber
@@ -36,6 +39,12 @@ pairPlain e = record { lower = e .pair .lower; upper = e .pair .upper; rule = e 
 
 readPlain : FromDouble → PlainRead
 readPlain f = record { number = numberPlain (f .number); rule = f .refusal .rule; place = f .refusal .place }
+
+headPlain : Head → PlainRead
+headPlain h = record { number = numberPlain (h .number); rule = h .refusal .rule; place = h .refusal .place }
+
+writtenPlain : Written → PlainWritten
+writtenPlain w = record { count = w .count; rule = w .refusal .rule; place = w .refusal .place }
 
 zero-back : (z : Bool) → isZeroKind (kindFrom z) ≡ z
 unfolding kindFrom isZeroKind
@@ -54,6 +63,14 @@ read-back : (r : PlainRead) → readPlain (readFrom r) ≡ r
 unfolding readFrom readPlain
 read-back r = rw (number-back (r .number))
 
+head-back : (r : PlainRead) → headPlain (headFrom r) ≡ r
+unfolding headFrom headPlain
+head-back r = rw (number-back (r .number))
+
+written-back : (w : PlainWritten) → writtenPlain (writtenFrom w) ≡ w
+unfolding writtenFrom writtenPlain
+written-back w = refl
+
 pair-back : (e : PlainPair) → pairPlain (enclosedFrom e) ≡ e
 unfolding enclosedFrom pairPlain
 pair-back e = refl
@@ -71,6 +88,13 @@ pair-unique a b e = sym (pair-back a) ∙ ap pairPlain e ∙ pair-back b
 
 pub read-unique : (a b : PlainRead) → readFrom a ≡ readFrom b → a ≡ b
 read-unique a b e = sym (read-back a) ∙ ap readPlain e ∙ read-back b
+
+-- a line's head, and a line read; a line written
+pub head-unique : (a b : PlainRead) → headFrom a ≡ headFrom b → a ≡ b
+head-unique a b e = sym (head-back a) ∙ ap headPlain e ∙ head-back b
+
+pub written-unique : (a b : PlainWritten) → writtenFrom a ≡ writtenFrom b → a ≡ b
+written-unique a b e = sym (written-back a) ∙ ap writtenPlain e ∙ written-back b
 
 -- add, subtract, re-round
 pub summed-agree : (f : Operation) (mode : ℕ) (x : Number) (xl : List ℕ) (y : Number) (yl : List ℕ) (p : ℕ) (entry : List ℕ) (a b : PlainSum) (exit left : List ℕ)

@@ -15,6 +15,9 @@ use Rattle.doubles.specs.declared.Enclosed.{Enclosed}
 use Rattle.doubles.specs.declared.FromDouble.{FromDouble}
 use Rattle.doubles.specs.Convert.{convertedOf}
 use Rattle.doubles.specs.Enclose.{enclosedOf}
+use Rattle.lines.specs.declared.Head.{Head}
+use Rattle.lines.specs.declared.Written.{Written}
+use Rattle.lines.specs.Writing.{writtenOf, roomAfter}
 use Rattle.depth.specs.Depth.{Operation}
 use Rattle.sums.specs.declared.report.Sum.{Sum}
 use Rattle.sums.specs.Summed.{Summed, Rerounded}
@@ -23,8 +26,9 @@ use Rattle.sheafbuckle.specs.declared.plain.PlainSum.{PlainSum}
 use Rattle.sheafbuckle.specs.declared.ordering.PlainOrder.{PlainOrder}
 use Rattle.sheafbuckle.specs.declared.conversion.PlainDouble.{PlainDouble}
 use Rattle.sheafbuckle.specs.declared.conversion.PlainPair.{PlainPair}
-use Rattle.sheafbuckle.specs.declared.conversion.PlainRead.{PlainRead}
-use Rattle.sheafbuckle.specs.Answers.{orderTold, doubleTold, enclosedFrom, readFrom}
+use Rattle.sheafbuckle.specs.declared.plain.PlainRead.{PlainRead}
+use Rattle.sheafbuckle.specs.declared.stored.PlainWritten.{PlainWritten}
+use Rattle.sheafbuckle.specs.Answers.{orderTold, doubleTold, enclosedFrom, readFrom, headFrom, writtenFrom}
 use Rattle.sheafbuckle.specs.Plain.{kindFrom, numberFrom, sumFrom}
 
 -- ---- numbers and sums
@@ -85,3 +89,17 @@ enclosed-told x xl a e r first enclosed told = rw (sym first, sym enclosed) told
 pub read-told : (f : FromDouble) (n : PlainNumber) → numberFrom n ≡ f .number → readFrom (record { number = n; rule = f .refusal .rule; place = f .refusal .place }) ≡ f
 unfolding readFrom
 read-told f n number = rw number
+
+-- ---- lines
+
+pub head-told : (h : Head) (n : PlainNumber) → numberFrom n ≡ h .number → headFrom (record { number = n; rule = h .refusal .rule; place = h .refusal .place }) ≡ h
+unfolding headFrom
+head-told h n number = rw number
+
+pub written-told : (x : PlainNumber) (l : List ℕ) (n : ℕ) (a : Number) (w : Written) (r : PlainWritten)
+    → a ≡ numberFrom x → w ≡ writtenOf a l n → writtenFrom r ≡ w → writtenFrom r ≡ writtenOf (numberFrom x) l n
+written-told x l n a w r first written told = rw (sym first, sym written) told
+
+pub room-told : (x : PlainNumber) (l : List ℕ) (entry exit : List ℕ) (a : Number)
+    → a ≡ numberFrom x → exit ≡ roomAfter a l entry → exit ≡ roomAfter (numberFrom x) l entry
+room-told x l entry exit a first left = rw (sym first) left

@@ -9,10 +9,13 @@ use Rattle.doubles.specs.declared.Converted.the-variants.{Exact, Below, Above, 
 use Rattle.doubles.specs.declared.Enclosed.{Enclosed}
 use Rattle.doubles.specs.declared.FromDouble.{FromDouble}
 use Rattle.doubles.specs.Double.{signBit, double}
+use Rattle.lines.specs.declared.Head.{Head}
+use Rattle.lines.specs.declared.Written.{Written}
 use Rattle.sheafbuckle.specs.declared.ordering.PlainOrder.{PlainOrder}
 use Rattle.sheafbuckle.specs.declared.conversion.PlainDouble.{PlainDouble}
 use Rattle.sheafbuckle.specs.declared.conversion.PlainPair.{PlainPair}
-use Rattle.sheafbuckle.specs.declared.conversion.PlainRead.{PlainRead}
+use Rattle.sheafbuckle.specs.declared.plain.PlainRead.{PlainRead}
+use Rattle.sheafbuckle.specs.declared.stored.PlainWritten.{PlainWritten}
 use Rattle.sheafbuckle.specs.Plain.{numberFrom}
 
 -- "compare (−1, 0, 1 ..)"
@@ -32,3 +35,9 @@ enclosedFrom e = record { pair = record { lower = e .lower; upper = e .upper }; 
 
 unfoldable pub readFrom : PlainRead → FromDouble
 readFrom r = record { number = numberFrom (r .number); refusal = record { rule = r .rule; place = r .place } }
+
+unfoldable pub headFrom : PlainRead → Head
+headFrom r = record { number = numberFrom (r .number); refusal = record { rule = r .rule; place = r .place } }
+
+unfoldable pub writtenFrom : PlainWritten → Written
+writtenFrom w = record { count = w .count; refusal = record { rule = w .rule; place = w .place } }

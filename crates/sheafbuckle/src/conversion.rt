@@ -1,5 +1,6 @@
 // To double, enclosing pair, from double.
 use crate::plain::PlainNumber;
+use crate::plain::PlainRead;
 use crate::plain::number_from;
 use crate::plain::plain_number;
 use doubles::Converted;
@@ -28,14 +29,6 @@ pub struct PlainDouble {
 pub struct PlainPair {
     pub lower: f64,
     pub upper: f64,
-    pub rule: u8,
-    pub place: u8,
-}
-
-// The number of a double, and the refusal.
-#[repr(C)]
-pub struct PlainRead {
-    pub number: PlainNumber,
     pub rule: u8,
     pub place: u8,
 }

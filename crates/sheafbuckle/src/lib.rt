@@ -4,6 +4,7 @@ mod arithmetic; // arithmetic.rt: add, subtract, re-round
 mod ordering; // ordering.rt: compare, turn the sign
 mod conversion; // conversion.rt: to double, enclosing pair, from double
 mod limbs; // limbs.rt: trim
+mod stored; // stored.rt: write a line, read its head, read it
 
 pub use arithmetic::sheafbuckle_add;
 pub use arithmetic::sheafbuckle_reround;
@@ -14,3 +15,6 @@ pub use conversion::sheafbuckle_to_double;
 pub use limbs::sheafbuckle_trim;
 pub use ordering::sheafbuckle_compare;
 pub use ordering::sheafbuckle_turn_sign;
+pub use stored::sheafbuckle_read_head;
+pub use stored::sheafbuckle_read_line;
+pub use stored::sheafbuckle_write_line;

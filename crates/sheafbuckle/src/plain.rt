@@ -27,6 +27,14 @@ pub struct PlainSum {
     pub place: u8,
 }
 
+// The number of a double or of a line, and the refusal.
+#[repr(C)]
+pub struct PlainRead {
+    pub number: PlainNumber,
+    pub rule: u8,
+    pub place: u8,
+}
+
 fn kind_from(zero: bool) -> Kind
     ensures { λ r. ⌜ r ≡ kindFrom zero ⌝ }
 {
