@@ -14,6 +14,10 @@ fn put_refusal(out: &mut [u8; 4096], refusal: Refusal) -> usize
     vectors::put_byte(out, a, refusal.place as u64)
 }
 
+fn wide(b: u8) -> u64 {
+    b as u64
+}
+
 fn put_bytes(out: &mut [u8; 4096], at: usize, bytes: &[u8]) -> usize
     requires { ⌜ at ≤ 4096 ⌝ }
     ensures { λ r. ⌜ r ≤ 4096 ⌝ }
@@ -21,7 +25,7 @@ fn put_bytes(out: &mut [u8; 4096], at: usize, bytes: &[u8]) -> usize
     let mut place = at;
     let mut i: usize = 0;
     while i < bytes.len() {
-        place = vectors::put_byte(out, place, bytes[i] as u64);
+        place = vectors::put_byte(out, place, wide(bytes[i]));
         i += 1;
     }
     place
@@ -97,11 +101,19 @@ fn write_part(
     run_write(x, &xs[0..n], &mut room[0..end], out)
 }
 
-fn read_part(line: &[u8], target: &mut [u64], k: u64, out: &mut [u8; 4096]) -> usize
+fn read_part(
+    stored: &[u8; 2048],
+    n: usize,
+    target: &mut [u64],
+    k: u64,
+    out: &mut [u8; 4096],
+) -> usize
+    requires { ⌜ n ≤ 2048 ⌝ }
     ensures { λ r. ⌜ r ≤ 4096 ⌝ }
 {
+    let bytes = &stored[..];
     let end = at_most(k, target.len());
-    run_read(line, &mut target[0..end], out)
+    run_read(&bytes[0..n], &mut target[0..end], out)
 }
 
 // 2,048 bytes, all the same. The `ensures` gives the length, which lending them as a slice needs.
@@ -145,8 +157,7 @@ fn read_case(line: &[u8], out: &mut [u8; 4096]) -> usize
     let mut stored = [0u8; 2048];
     let mut target = vectors::filled(vectors::byte_at(line, 6));
     let n = bytes_at(line, 12, vectors::pair_at(line, 8), &mut stored);
-    let bytes = &stored[..];
-    read_part(&bytes[0..n], &mut target, vectors::pair_at(line, 2), out)
+    read_part(&stored, n, &mut target, vectors::pair_at(line, 2), out)
 }
 
 fn run_case(line: &[u8], out: &mut [u8; 4096]) -> usize

@@ -5,10 +5,7 @@ use Rattle.lines.specs.Line.{shortestLine, longestLine}
 use borrow.Author.Needs.{needs}
 use Rattle.lines.proofs.longest_line.Statement.{statement}
 use Rattle.lines.proofs.longest_line.Tie as tie
-use Rattle.lines.proofs.longest_line.Reads as reads
-use Rattle.lines.proofs.longest_line.Lts as lts
 
--- src/lib.rt:43:1
 returns : tie.Need-returns
 unfolding longestLine shortestLine mostPrecision limbsFor
 returns c = refl

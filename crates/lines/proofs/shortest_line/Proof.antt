@@ -4,10 +4,7 @@ use Rattle.lines.specs.Line.{shortestLine}
 use borrow.Author.Needs.{needs}
 use Rattle.lines.proofs.shortest_line.Statement.{statement}
 use Rattle.lines.proofs.shortest_line.Tie as tie
-use Rattle.lines.proofs.shortest_line.Reads as reads
-use Rattle.lines.proofs.shortest_line.Lts as lts
 
--- src/lib.rt:36:1
 returns : tie.Need-returns
 unfolding shortestLine
 returns c = refl

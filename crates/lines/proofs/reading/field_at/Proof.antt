@@ -4,31 +4,22 @@ use Rattle.lines.proofs.Fields.{field-whole, field-lt}
 use borrow.Author.Needs.{needs}
 use Rattle.lines.proofs.reading.field_at.Statement.{statement}
 use Rattle.lines.proofs.reading.field_at.Tie as tie
-use Rattle.lines.proofs.reading.field_at.Reads as reads
-use Rattle.lines.proofs.reading.field_at.Lts as lts
-use Rattle.text.proofs.read_digits.Reads as read-digits-reads
 
--- src/reading.rt:50:15
 add-end : tie.Need-add-end
 add-end c = search needs
 
--- src/reading.rt:51:23
 sub-read-digits : tie.Need-sub-read-digits
 sub-read-digits c = search needs
 
--- src/reading.rt:51:23
 part-read-digits-start : tie.Need-part-read-digits-start
 part-read-digits-start c = search needs
 
--- src/reading.rt:51:23
 part-read-digits-end : tie.Need-part-read-digits-end
 part-read-digits-end c = search needs
 
--- src/reading.rt:51:5
 read-digits-requires : tie.Need-read-digits-requires
 read-digits-requires c κs = search needs
 
--- src/reading.rt:46:1
 returns : tie.Need-returns
 returns c =
     let a = c .before .before .before .args in

@@ -4,10 +4,7 @@ use Rattle.checks.specs.Number.{nothing}
 use borrow.Author.Needs.{needs}
 use Rattle.lines.proofs.reading.refused.Statement.{statement}
 use Rattle.lines.proofs.reading.refused.Tie as tie
-use Rattle.lines.proofs.reading.refused.Reads as reads
-use Rattle.lines.proofs.reading.refused.Lts as lts
 
--- src/reading.rt:18:1
 returns : tie.Need-returns
 unfolding nothing
 returns c = refl

@@ -15,73 +15,52 @@ use Rattle.lines.proofs.Room.{onto-nothing, put-numeral, head-parts}
 use borrow.Author.Needs.{needs}
 use Rattle.lines.proofs.writing.write_head.Statement.{statement}
 use Rattle.lines.proofs.writing.write_head.Tie as tie
-use Rattle.lines.proofs.writing.write_head.Reads as reads
-use Rattle.lines.proofs.writing.write_head.Lts as lts
-use Rattle.checks.proofs.counted_exponent.Reads as counted-exponent-reads
-use Rattle.lines.proofs.writing.kind_byte.Reads as kind-byte-reads
-use Rattle.text.proofs.write_digits.Reads as write-digits-reads
 
--- src/writing.rt:28:24
 sub-write-digits : tie.Need-sub-write-digits
 sub-write-digits c = search needs
 
--- src/writing.rt:28:24
 part-write-digits-start : tie.Need-part-write-digits-start
 part-write-digits-start c = search needs
 
--- src/writing.rt:28:24
 part-write-digits-end : tie.Need-part-write-digits-end
 part-write-digits-end c = omega (arith, shortest-is)
 
--- src/writing.rt:28:41
 kind-byte-requires : tie.Need-kind-byte-requires
 kind-byte-requires c κs = search needs
 
--- src/writing.rt:28:5
 write-digits-requires : tie.Need-write-digits-requires
 write-digits-requires c κs = search needs
 
--- src/writing.rt:29:24
 sub-write-digits-2 : tie.Need-sub-write-digits-2
 sub-write-digits-2 c = search needs
 
--- src/writing.rt:29:24
 part-write-digits-start-2 : tie.Need-part-write-digits-start-2
 part-write-digits-start-2 c = search needs
 
--- src/writing.rt:29:24
 part-write-digits-end-2 : tie.Need-part-write-digits-end-2
 part-write-digits-end-2 c = omega (arith, shortest-is)
 
--- src/writing.rt:29:5
 write-digits-requires-2 : tie.Need-write-digits-requires-2
 write-digits-requires-2 c κs = search needs
 
--- src/writing.rt:30:24
 sub-write-digits-3 : tie.Need-sub-write-digits-3
 sub-write-digits-3 c = search needs
 
--- src/writing.rt:30:24
 part-write-digits-start-3 : tie.Need-part-write-digits-start-3
 part-write-digits-start-3 c = search needs
 
--- src/writing.rt:30:24
 part-write-digits-end-3 : tie.Need-part-write-digits-end-3
 part-write-digits-end-3 c = omega (arith, shortest-is)
 
--- src/writing.rt:30:42
 counted-exponent-requires : tie.Need-counted-exponent-requires
 counted-exponent-requires c κs = search needs
 
--- src/writing.rt:30:5
 write-digits-requires-3 : tie.Need-write-digits-requires-3
 write-digits-requires-3 c κs = search needs
 
--- src/writing.rt:23:1
 same-length : tie.Need-same-length
 same-length c = search needs
 
--- src/writing.rt:23:1
 returns : tie.Need-returns
 returns c =
     let a = c .before .before .before .before .before .before .before .before .before .before .before .before .before .before .before .before .args in

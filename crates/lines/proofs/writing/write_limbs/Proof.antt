@@ -14,9 +14,6 @@ use Rattle.lines.proofs.Room.{onto-nothing, put-numeral, onto-all, leng
 use borrow.Author.Needs.{needs}
 use Rattle.lines.proofs.writing.write_limbs.Statement.{statement}
 use Rattle.lines.proofs.writing.write_limbs.Tie as tie
-use Rattle.lines.proofs.writing.write_limbs.Reads as reads
-use Rattle.lines.proofs.writing.write_limbs.Lts as lts
-use Rattle.text.proofs.write_digits.Reads as write-digits-reads
 
 no-digits : (r : List ℕ) → r ≡ onto (limbDigits []) r
 unfolding limbDigits
@@ -31,67 +28,54 @@ finished : (part r l : List ℕ) (i : ℕ) → i ≡ 0 → length r ≡ 16 * len
 finished part r l i e n h = (rw e at h) ∙ onto-all (limbDigits l) r (rw (length-limb-digits l) (omega arith))
 
 abbrev Inv-loop : tie.InvT-loop
-Inv-loop limbs part₀ i₀ at₀ part i at = 
+Inv-loop limbs part₀ i₀ at₀ part i at =
     (i ≤ length limbs) × (length part ≡ length part₀) × (at + 16 * i ≡ 16 * length limbs) × (part ≡ onto (limbDigits (drop i limbs)) part₀)
 
 abbrev μ-loop : tie.MeasureT-loop
 μ-loop limbs part₀ i₀ at₀ part i at = i
 
--- src/writing.rt:40:5
 loop-holds : tie.Need-loop-holds Inv-loop μ-loop
 loop-holds c =
     let a = c .before .before .args in
     let l : List ℕ = a .limbs .now in
     (search needs, search needs, search needs, rw (drop-length l) (no-digits (a .part .now)))
 
--- src/writing.rt:41:9
 sub-i : tie.Need-sub-i Inv-loop μ-loop
 sub-i c = search needs
 
--- src/writing.rt:42:19
 add-end : tie.Need-add-end Inv-loop μ-loop
 add-end c = omega arith
 
--- src/writing.rt:43:28
 sub-write-digits : tie.Need-sub-write-digits Inv-loop μ-loop
 sub-write-digits c = search needs
 
--- src/writing.rt:43:28
 part-write-digits-start : tie.Need-part-write-digits-start Inv-loop μ-loop
 part-write-digits-start c = search needs
 
--- src/writing.rt:43:28
 part-write-digits-end : tie.Need-part-write-digits-end Inv-loop μ-loop
 part-write-digits-end c = omega arith
 
--- src/writing.rt:43:48
 mul-write-digits : tie.Need-mul-write-digits Inv-loop μ-loop
 mul-write-digits c = search needs
 
--- src/writing.rt:43:48
 shared-slice-read-write-digits : tie.Need-shared-slice-read-write-digits Inv-loop μ-loop
 shared-slice-read-write-digits c = search needs
 
--- src/writing.rt:43:9
 write-digits-requires : tie.Need-write-digits-requires Inv-loop μ-loop
 write-digits-requires c κs = search needs
 
--- src/writing.rt:40:5
 loop-less : tie.Need-loop-less Inv-loop μ-loop
 loop-less c = search needs
 
--- src/writing.rt:40:5
 loop-again : tie.Need-loop-again Inv-loop μ-loop
 loop-again c =
     let l = c .before .before .before .before .before .before .loop in
     let a = c .before .before .before .before .before .before .before .before .before .args in
     (search needs, search needs, omega arith, step (l .part) (a .part .now) (a .limbs .now) _ (l .i) (l .i - 1) (l .at) (omega arith) (omega arith) (omega arith) (omega arith) (l .inv .3) (c .before .before .write-digits .ensures))
 
--- src/writing.rt:34:1
 same-length : tie.Need-same-length Inv-loop μ-loop
 same-length c = search needs
 
--- src/writing.rt:34:1
 returns : tie.Need-returns Inv-loop μ-loop
 returns c =
     let l = c .before .loop in
