@@ -184,14 +184,16 @@ static long gmp_run(long turns) {
 }
 
 // the kernel on the two sets of cases
+static loop own;
+
 static long own_first(long turns) {
     cases = sets[0];
-    return kernel_add(turns);
+    return own(turns);
 }
 
 static long own_second(long turns) {
     cases = sets[1];
-    return kernel_add(turns);
+    return own(turns);
 }
 
 // ---- comparing answers
@@ -419,19 +421,23 @@ static void sum_rows(void) {
 }
 
 // the kernel's own times, 4096,4096 -> 53 over 128,128 -> 53
-static void own_rows(void) {
-    for (shape s = EQUAL; s <= FAR; s++) {
-        char name[100];
-        snprintf(name, sizeof name, "add 4096,4096 -> 53 over 128,128 -> 53, %s", shape_name[s]);
-        if (!wanted(name)) continue;
-        set_target(53);
-        for (size_t i = 0; i < case_count; i++) {
-            make_pair(&sets[0][i], s, 4096, 4096, 53);
-            make_pair(&sets[1][i], s, 128, 128, 53);
-        }
-        row("own", name, 1.3, own_first, own_second, false);
-        cases = sets[0];
+static void own_row(operation f, shape s) {
+    char name[100];
+    snprintf(name, sizeof name, "%s 4096,4096 -> 53 over 128,128 -> 53, %s", operation_name[f], shape_name[s]);
+    if (!wanted(name)) return;
+    set_target(53);
+    for (size_t i = 0; i < case_count; i++) {
+        make_pair(&sets[0][i], s, 4096, 4096, 53);
+        make_pair(&sets[1][i], s, 128, 128, 53);
     }
+    own = f == ADD ? kernel_add : kernel_subtract;
+    row("own", name, 1.3, own_first, own_second, false);
+    cases = sets[0];
+}
+
+static void own_rows(void) {
+    for (operation f = ADD; f <= SUBTRACT; f++)
+        for (shape s = EQUAL; s <= FAR; s++) own_row(f, s);
 }
 
 static void order_rows(void) {

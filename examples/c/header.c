@@ -4,6 +4,12 @@
 #include <stdio.h>
 #include <string.h>
 
+// the layout that the archive was compiled for
+_Static_assert(sizeof(sheafbuckle_number) == 16 && sizeof(sheafbuckle_sum) == 48, "numbers and sums");
+_Static_assert(sizeof(sheafbuckle_order) == 3 && sizeof(sheafbuckle_run) == 16, "orders and runs");
+_Static_assert(sizeof(sheafbuckle_double) == 16 && sizeof(sheafbuckle_pair) == 24, "doubles and pairs");
+_Static_assert(sizeof(sheafbuckle_read) == 24 && sizeof(sheafbuckle_written) == 16, "what is read and written");
+
 static int wrong;
 
 #define SAME(a, b)                                                  \
