@@ -133,7 +133,7 @@ typedef long (*loop)(long turns);
 
 static int sign(int t) { return (t > 0) - (t < 0); }
 
-#define KERNEL(name, call)                                          \
+#define LOOP(name, call)                                            \
     static long name(long turns) {                                  \
         long kept = 0;                                              \
         for (long t = 0; t < turns; t++)                            \
@@ -144,15 +144,15 @@ static int sign(int t) { return (t > 0) - (t < 0); }
         return kept;                                                \
     }
 
-KERNEL(kernel_add, sheafbuckle_add(c->mode, c->x.number, c->x.limbs, c->x.count, c->y.number, c->y.limbs, c->y.count, target_precision, target, target_count).ternary)
-KERNEL(mpfr_adds, sign(mpfr_add(answer, c->x.mpfr, c->y.mpfr, rounding[c->mode])))
-KERNEL(kernel_subtract, sheafbuckle_subtract(c->mode, c->x.number, c->x.limbs, c->x.count, c->y.number, c->y.limbs, c->y.count, target_precision, target, target_count).ternary)
-KERNEL(mpfr_subtracts, sign(mpfr_sub(answer, c->x.mpfr, c->y.mpfr, rounding[c->mode])))
-KERNEL(kernel_reround, sheafbuckle_reround(c->mode, c->x.number, c->x.limbs, c->x.count, target_precision, target, target_count).ternary)
-KERNEL(mpfr_sets, sign(mpfr_set(answer, c->x.mpfr, rounding[c->mode])))
+LOOP(kernel_add, sheafbuckle_add(c->mode, c->x.number, c->x.limbs, c->x.count, c->y.number, c->y.limbs, c->y.count, target_precision, target, target_count).ternary)
+LOOP(mpfr_adds, sign(mpfr_add(answer, c->x.mpfr, c->y.mpfr, rounding[c->mode])))
+LOOP(kernel_subtract, sheafbuckle_subtract(c->mode, c->x.number, c->x.limbs, c->x.count, c->y.number, c->y.limbs, c->y.count, target_precision, target, target_count).ternary)
+LOOP(mpfr_subtracts, sign(mpfr_sub(answer, c->x.mpfr, c->y.mpfr, rounding[c->mode])))
+LOOP(kernel_reround, sheafbuckle_reround(c->mode, c->x.number, c->x.limbs, c->x.count, target_precision, target, target_count).ternary)
+LOOP(mpfr_sets, sign(mpfr_set(answer, c->x.mpfr, rounding[c->mode])))
 
-KERNEL(kernel_compare, sheafbuckle_compare(c->x.number, c->x.limbs, c->x.count, c->y.number, c->y.limbs, c->y.count).order)
-KERNEL(mpfr_compares, sign(mpfr_cmp(c->x.mpfr, c->y.mpfr)))
+LOOP(kernel_compare, sheafbuckle_compare(c->x.number, c->x.limbs, c->x.count, c->y.number, c->y.limbs, c->y.count).order)
+LOOP(mpfr_compares, sign(mpfr_cmp(c->x.mpfr, c->y.mpfr)))
 
 static long bits_of(double d) {
     long b;
@@ -160,8 +160,8 @@ static long bits_of(double d) {
     return b >> 8;
 }
 
-KERNEL(kernel_to_double, bits_of(sheafbuckle_to_double(c->mode, c->x.number, c->x.limbs, c->x.count).value))
-KERNEL(mpfr_to_double, bits_of(mpfr_get_d(c->x.mpfr, rounding[c->mode])))
+LOOP(kernel_to_double, bits_of(sheafbuckle_to_double(c->mode, c->x.number, c->x.limbs, c->x.count).value))
+LOOP(mpfr_to_double, bits_of(mpfr_get_d(c->x.mpfr, rounding[c->mode])))
 
 // runs of limbs: every operand is added into one target, which begins at 0
 static size_t run_count;
