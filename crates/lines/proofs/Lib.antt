@@ -4,3 +4,4 @@ pub mod Room
 pub mod Size
 pub mod Answered
 pub mod Accepted
+pub mod RoundTrip
