@@ -5,3 +5,4 @@ pub mod Size
 pub mod Answered
 pub mod Accepted
 pub mod RoundTrip
+pub mod OneLine
