@@ -6,3 +6,5 @@ pub mod Answered
 pub mod Accepted
 pub mod RoundTrip
 pub mod OneLine
+pub mod Longest
+pub mod Unique

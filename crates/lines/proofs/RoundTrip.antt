@@ -205,13 +205,25 @@ module _ (x : Number) (l : List ℕ) (w : Below (2 ^ 64) l) (room : ℕ) (a : wr
   read-accepted =
       all-accepted _ (
         le-leb shortestLine (length (lineOf x l)) (at-least x l),
-        (line-holds x l,
-        (le-leb (kindIn (lineOf x l)) 3 (rw kind-read (kind-small (x .kind) (x .negative))),
-        (rw number-back (passes .precision),
-        (rw number-back (eq-eqb (length (lineOf x l)) (lineSize x) (size-is x l count)),
-        (same-exponent,
-        (rw number-back (passes .limbs),
-        (form-read, tt))))))),
+        (
+          line-holds x l,
+          (
+            le-leb (kindIn (lineOf x l)) 3 (rw kind-read (kind-small (x .kind) (x .negative))),
+            (
+              rw number-back (passes .precision),
+              (
+                rw number-back (eq-eqb (length (lineOf x l)) (lineSize x) (size-is x l count)),
+                (
+                  same-exponent,
+                  (
+                    rw number-back (passes .limbs),
+                    (form-read, tt),
+                  ),
+                ),
+              ),
+            ),
+          ),
+        ),
       )
 
   -- "Each accepted line is what the writer gives for the number read", the other way round
