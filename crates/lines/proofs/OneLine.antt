@@ -1,7 +1,7 @@
 -- Each accepted line is what the writer gives for the number read: a number has one line. Assumes nothing.
 use mathlib.Core.Path.{_≡_, refl, sym, ap, _∙_}
 use mathlib.Core.Bool.{Bool, true, false, cond}
-use mathlib.Core.List.{List, [], _∷_, _++_, append-nil}
+use mathlib.Core.List.{List, [], _∷_, _++_}
 use Prim.Native.Nat.{ℕ, zero, suc, _+_, _-_, _*_, _^_, _<_, _≤_}
 use native.Mathlib.Nat.{lt-of-not-le}
 use native.Mathlib.Decide.{decLe}
@@ -10,7 +10,6 @@ use lib.ListN.{length, take, drop, getD, replicate, length-replicate, take-appen
 use lib.Seq.{take-add, drop-drop, drop-cons}
 use borrow.Author.Tests.{lt-ltb, le-ltb, le-leb, leb-true, eqb-true}
 use Rattle.numbers.specs.Limits.{limbsFor}
-use Rattle.checks.specs.declared.Number.{Number}
 use Rattle.checks.specs.Number.{operandOf, isZeroKind}
 use Rattle.checks.specs.Check.{accepted, precisionHolds, lengthHolds, exponentHolds, formHolds}
 use Rattle.checks.proofs.Tables.{AllHold, accepted-all, all-accepted}
@@ -19,7 +18,7 @@ use Rattle.text.specs.Digits.{numeral}
 use Rattle.text.proofs.Numeral.{numeral-of-worth}
 use Rattle.lines.specs.Line.{kindByte, twosComplement, headDigits, limbDigits, lineFeed, lineOf, shortestLine, lineSize}
 use Rattle.lines.specs.Reading.{field, kindIn, signedOf, negativeOf, kindOf, numberIn, limbsIn, operandIn, digitsHold, headTests, limbTests, readRefusal, limbsRead}
-use Rattle.lines.specs.Writing.{writeRefusal, onto, roomAfter}
+use Rattle.lines.specs.Writing.{writeRefusal, roomAfter}
 use Rattle.lines.proofs.Fields.{ends, field-digits, field-length, field-lt, length-limbs, shortest-is}
 use Rattle.lines.proofs.Room.{onto-all}
 use Rattle.lines.proofs.Size.{zero-line, regular-line}

@@ -1,29 +1,27 @@
 -- A number that the writer accepts is read back from its line as it was: sign, kind, precision, exponent and limbs. Assumes nothing.
 use mathlib.Core.Path.{_≡_, refl, sym, ap, _∙_}
 use mathlib.Core.Bool.{Bool, true, false, cond}
-use mathlib.Core.List.{List, [], _∷_, _++_, append-assoc, append-nil}
+use mathlib.Core.List.{List, [], _∷_, _++_, append-assoc}
 use Prim.Native.Nat.{ℕ, zero, suc, _+_, _-_, _*_, _^_, _<_, _≤_}
 use native.Mathlib.Nat.{lt-of-le-of-lt}
 use native.Mathlib.Omega.{arith}
-use lib.Dec.{leb, eqb}
 use lib.IntN.{ℤ, pos, negsuc}
-use lib.ListN.{length, take, drop, getD, replicate, length-append}
+use lib.ListN.{length, replicate, length-append}
 use lib.Seq.{take-at, drop-at, getD-at}
-use borrow.Author.Tests.{lt-ltb, le-ltb, le-leb, eq-eqb, eqb-true}
+use borrow.Author.Tests.{lt-ltb, le-ltb, le-leb, eq-eqb}
 use Rattle.limb.specs.Value.{Below}
 use Rattle.numbers.specs.Limits.{mostPrecision, bias, counted, leastExponent, mostExponent, limbsFor}
 use Rattle.checks.specs.declared.Number.{Number}
 use Rattle.checks.specs.declared.Kind.{Kind}
 use Rattle.checks.specs.declared.Kind.the-variants.{Regular, Zero}
 use Rattle.checks.specs.Number.{operandOf, isZeroKind}
-use Rattle.checks.specs.Check.{accepted, firstRefusal, precisionHolds, lengthHolds, exponentHolds, formHolds}
+use Rattle.checks.specs.Check.{accepted, exponentHolds, formHolds}
 use Rattle.checks.proofs.Tables.{accepted-all, all-accepted}
 use Rattle.numbers.specs.Operand.{WellFormed}
 use Rattle.checks.proofs.Accepted.{Passes, passes-well-formed}
 use Rattle.text.specs.Digits.{allDigits, worth, numeral}
 use Rattle.text.proofs.Digits.{digits-append, digits-nil}
 use Rattle.text.proofs.Numeral.{length-numeral, numeral-digits, worth-of-numeral}
-use Rattle.lines.specs.declared.Head.{Head}
 use Rattle.lines.specs.Line.{kindByte, twosComplement, headDigits, limbDigits, lineFeed, lineOf, shortestLine, lineSize}
 use Rattle.lines.specs.Reading.{field, kindIn, signedOf, negativeOf, kindOf, numberIn, limbsIn, operandIn, digitsHold, headTests, limbTests, readRefusal, answered, readOf, limbsRead, targetAfter}
 use Rattle.lines.specs.Writing.{writeRefusal}

@@ -12,7 +12,7 @@ use Rattle.numbers.specs.Limits.{limbsFor}
 use Rattle.lines.specs.declared.Head.{Head}
 use Rattle.lines.specs.declared.Written.{Written}
 use Rattle.lines.specs.Line.{lineOf}
-use Rattle.lines.specs.Reading.{limbsIn, headOf, readOf, targetAfter}
+use Rattle.lines.specs.Reading.{headOf, readOf, targetAfter}
 use Rattle.lines.specs.Writing.{writeRefusal, writtenOf, roomAfter}
 use Rattle.lines.proofs.RoundTrip.{number-back, regular-back, count}
 
