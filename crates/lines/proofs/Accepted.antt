@@ -1,23 +1,23 @@
 -- A line after its head: what holds where the head is accepted, and what each later check answers. Assumes nothing.
 use mathlib.Core.Path.{_≡_, refl, sym, ap, _∙_}
-use mathlib.Core.Bool.{Bool, true, false, cond}
-use mathlib.Core.List.{List, [], _∷_, _++_}
+use mathlib.Core.Bool.{true, false, cond}
+use mathlib.Core.List.{List}
 use Prim.Native.Nat.{ℕ, _+_, _*_, _<_, _≤_}
 use native.Mathlib.Omega.{arith}
-use lib.Dec.{leb, eqb}
+use lib.Dec.{eqb}
 use lib.ListN.{length, replicate}
-use borrow.Author.Tests.{eq-eqb, ne-eqb, eqb-true, leb-true}
+use borrow.Author.Tests.{eq-eqb, ne-eqb, eqb-true}
 use Rattle.numbers.specs.Limits.{leastPrecision, limbsFor}
 use Rattle.numbers.proofs.Limits.{two-digits, limbs-hold}
 use Rattle.checks.specs.declared.Number.{Number}
 use Rattle.checks.specs.declared.Refusal.{Refusal}
 use Rattle.checks.specs.Number.{operandOf, isZeroKind, nothing}
-use Rattle.checks.specs.Check.{accepted, firstRefusal, precisionHolds, lengthHolds, exponentHolds, formHolds}
+use Rattle.checks.specs.Check.{accepted, firstRefusal, lengthHolds, formHolds}
 use Rattle.checks.proofs.Tables.{AllHold, unrefused-all, unrefused-accepted}
 use Rattle.checks.proofs.Accepted.{precision-range, length-count}
 use Rattle.lines.specs.declared.Head.{Head}
 use Rattle.lines.specs.Line.{shortestLine, lineSize}
-use Rattle.lines.specs.Reading.{kindIn, numberIn, limbsIn, operandIn, digitsHold, headTests, limbTests, headRefusal, readRefusal, answered, headOf, readOf, limbsRead, targetAfter}
+use Rattle.lines.specs.Reading.{numberIn, limbsIn, operandIn, digitsHold, headTests, limbTests, headRefusal, readRefusal, answered, headOf, readOf, limbsRead, targetAfter}
 use Rattle.lines.proofs.Tests.{joined}
 
 pub read-joined : (n : ℕ) (line : List ℕ) → readRefusal n line ≡ cond (eqb (headRefusal line .rule) 0) (firstRefusal (limbTests n line)) (headRefusal line)

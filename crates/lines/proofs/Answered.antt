@@ -3,7 +3,6 @@ use mathlib.Core.Path.{_≡_, refl, sym, ap, _∙_}
 use mathlib.Core.Bool.{true, false, cond}
 use mathlib.Core.List.{List, [], _∷_, _++_}
 use Prim.Native.Nat.{ℕ, _+_, _-_, _*_, _<_, _≤_}
-use native.Mathlib.Omega.{arith}
 use lib.Dec.{leb, eqb}
 use lib.ListN.{length, set, length-append}
 use borrow.Author.Tests.{le-leb, lt-leb, eq-eqb, ne-eqb}
@@ -15,7 +14,6 @@ use Rattle.checks.specs.Check.{test, accepted, firstRefusal, precisionHolds, le
 use Rattle.numbers.specs.Limits.{limbsFor}
 use Rattle.checks.proofs.Tables.{accepted-all}
 use Rattle.checks.proofs.Accepted.{alone-unrefused, length-count}
-use Rattle.lines.specs.declared.Written.{Written}
 use Rattle.lines.specs.Line.{headDigits, limbDigits, lineFeed, lineOf, lineSize}
 use Rattle.lines.specs.Writing.{writeRefusal, writtenOf, onto, roomAfter}
 use Rattle.lines.proofs.Room.{put-onto, set-onto, length-limb-digits}

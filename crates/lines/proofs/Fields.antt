@@ -3,9 +3,9 @@ use mathlib.Core.Path.{_≡_, refl, sym, ap, _∙_}
 use mathlib.Core.Bool.{Bool, true, false, _||_}
 use mathlib.Core.List.{List, [], _∷_}
 use Prim.Native.Nat.{ℕ, zero, suc, _+_, _-_, _*_, _%_, _^_, _<_, _≤_}
-use native.Mathlib.Nat.{lt-of-not-le, mod-eq-of-lt, not-suc-le-zero, le-of-suc-le-suc, lt-of-lt-of-le, pow-le-pow-right, zero-add}
+use native.Mathlib.Nat.{lt-of-not-le, mod-eq-of-lt, not-suc-le-zero, lt-of-lt-of-le, pow-le-pow-right}
 use native.Mathlib.Omega.{arith}
-use lib.Dec.{eqb, ltb}
+use lib.Dec.{eqb}
 use native.Mathlib.Decide.{decLe}
 use lib.IntN.{ℤ, pos, negsuc}
 use mir.Syntax.{w32}

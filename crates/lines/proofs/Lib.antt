@@ -4,3 +4,7 @@ pub mod Room
 pub mod Size
 pub mod Answered
 pub mod Accepted
+pub mod RoundTrip
+pub mod OneLine
+pub mod Longest
+pub mod Unique

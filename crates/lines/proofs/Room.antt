@@ -5,7 +5,7 @@ use Prim.Native.Nat.{ℕ, suc, _+_, _-_, _*_, _<_, _≤_}
 use native.Mathlib.Numerals.{add-one}
 use native.Mathlib.Omega.{arith}
 use lib.ListN.{length, take, drop, set, getD, length-append, length-drop, drop-of-length-le}
-use lib.Seq.{length-take-le, take-at, drop-at, drop-append-add, drop-drop, drop-cons, set-at}
+use lib.Seq.{length-take-le, take-at, drop-append-add, drop-drop, drop-cons, set-at}
 use borrow.Rule.Slice.PartMut.{putMid, post-is}
 use lib.IntN.{ℤ, pos, negsuc}
 use mir.Syntax.{w32}

@@ -1,18 +1,15 @@
 -- The size of a line: what the code counts, and the length of what is written. Assumes nothing.
-use mathlib.Core.Path.{_≡_, refl, sym, ap, _∙_}
+use mathlib.Core.Path.{_≡_, refl, _∙_}
 use mathlib.Core.Bool.{Bool, true, false}
 use mathlib.Core.List.{List, [], _∷_, _++_, append-nil}
-use Prim.Native.Nat.{ℕ, _+_, _*_, _^_, _<_, _≤_}
+use Prim.Native.Nat.{ℕ, _+_, _*_, _≤_}
 use native.Mathlib.Omega.{arith}
 use lib.ListN.{length, length-append}
-use mir.Syntax.{w64}
-use mir.Val.{Fits}
 use Rattle.numbers.specs.Limits.{limbsFor}
 use Rattle.checks.specs.declared.Number.{Number}
 use Rattle.checks.specs.Number.{isZeroKind}
-use Rattle.text.specs.Digits.{numeral}
 use Rattle.text.proofs.Numeral.{length-numeral}
-use Rattle.lines.specs.Line.{kindByte, twosComplement, headDigits, limbDigits, lineFeed, lineOf, shortestLine, lineSize}
+use Rattle.lines.specs.Line.{headDigits, limbDigits, lineFeed, lineOf, shortestLine, lineSize}
 use Rattle.lines.proofs.Room.{length-limb-digits}
 
 pub zero-size : (x : Number) → isZeroKind (x .kind) ≡ true → 15 ≡ lineSize x

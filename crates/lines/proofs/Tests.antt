@@ -3,17 +3,17 @@ use mathlib.Core.Path.{_≡_, refl, sym, ap, _∙_}
 use mathlib.Core.Bool.{Bool, true, false, not, cond}
 use mathlib.Core.List.{List, [], _∷_, _++_}
 use Prim.Native.Nat.{ℕ, _≤_, _<_}
-use lib.Dec.{leb, eqb}
+use lib.Dec.{eqb}
 use lib.ListN.{length}
 use borrow.Author.Tests.{le-leb, lt-leb, eq-eqb, ne-eqb, not-true}
 use Rattle.checks.specs.declared.Number.{Number}
 use Rattle.checks.specs.declared.Refusal.{Refusal}
 use Rattle.checks.specs.Number.{operandOf, nothing}
-use Rattle.checks.specs.Check.{Test, accepted, firstRefusal, precisionHolds, lengthHolds, exponentHolds, formHolds}
+use Rattle.checks.specs.Check.{Test, accepted, firstRefusal, precisionHolds, exponentHolds}
 use Rattle.checks.proofs.Tables.{allNamed, both}
 use Rattle.lines.specs.declared.Head.{Head}
 use Rattle.lines.specs.Line.{shortestLine, lineSize}
-use Rattle.lines.specs.Reading.{kindIn, numberIn, operandIn, digitsHold, headTests, limbTests, headRefusal, readRefusal, answered, headOf, readOf}
+use Rattle.lines.specs.Reading.{kindIn, numberIn, operandIn, digitsHold, headTests, headRefusal, answered, headOf}
 
 -- the first of two lists of tests decides, unless all its tests hold
 pub joined : (ts us : List Test) → allNamed ts ≡ true → firstRefusal (ts ++ us) ≡ cond (eqb (firstRefusal ts .rule) 0) (firstRefusal us) (firstRefusal ts)

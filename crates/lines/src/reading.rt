@@ -9,7 +9,6 @@ ghost use mathlib.Core.Path.{_≡_};
 ghost use mathlib.Core.Bool.{true};
 ghost use Prim.Native.Nat.{_+_, _*_, _^_, _≤_, _<_};
 ghost use lib.ListN.{length};
-ghost use Rattle.numbers.specs.Limits.{limbsFor};
 ghost use Rattle.checks.specs.Number.{operandOf, nothing};
 ghost use Rattle.checks.specs.Check.{formHolds};
 ghost use Rattle.lines.specs.Line.{shortestLine};

@@ -5,9 +5,9 @@ use checks::Kind;
 use checks::Number;
 use checks::Refusal;
 ghost use mathlib.Core.Path.{_≡_};
-ghost use Prim.Native.Nat.{_*_, _≤_, _^_};
+ghost use Prim.Native.Nat.{_*_, _≤_};
 ghost use lib.ListN.{length};
-ghost use Rattle.lines.specs.Line.{kindByte, twosComplement, headDigits, limbDigits, lineOf, lineSize, shortestLine};
+ghost use Rattle.lines.specs.Line.{kindByte, headDigits, limbDigits, lineOf, shortestLine};
 ghost use Rattle.lines.specs.Writing.{onto, writtenOf, roomAfter};
 
 fn kind_byte(kind: Kind, negative: bool) -> u64

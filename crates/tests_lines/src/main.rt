@@ -49,13 +49,22 @@ fn read(h: Head, target: &[u64], out: &mut [u8; 4096]) -> usize
     vectors::put_end(out, c)
 }
 
-// The heads of a line must be the same, whichever function reads it; where they differ, the answer is empty.
-fn same_head(line: &[u8], h: Head) -> bool {
+fn same_number(a: Number, b: Number) -> bool {
+    let zeros = checks::is_zero(a) == checks::is_zero(b);
+    let signs = a.negative == b.negative;
+    zeros & signs & (a.precision == b.precision) & (a.exponent == b.exponent)
+}
+
+// Whether the head alone is what it must be beside the answer of the whole line: the same, or accepted where the limbs are refused.
+fn head_agrees(line: &[u8], whole: Head) -> bool {
     let head = lines::read_head(line);
-    if head.refusal.rule == h.refusal.rule {
-        return true;
+    let told = head.refusal;
+    let given = whole.refusal;
+    if (given.rule == 3) | (given.rule == 5) {
+        return told.rule == 0;
     }
-    (head.refusal.rule == 0) & ((h.refusal.rule == 3) | (h.refusal.rule == 5))
+    let numbers = same_number(head.number, whole.number);
+    numbers & (told.rule == given.rule) & (told.place == given.place)
 }
 
 fn run_write(x: Number, limbs: &[u64], room: &mut [u8], out: &mut [u8; 4096]) -> usize
@@ -65,11 +74,12 @@ fn run_write(x: Number, limbs: &[u64], room: &mut [u8], out: &mut [u8; 4096]) ->
     written(w, room, out)
 }
 
+// Prints nothing where the head alone does not agree.
 fn run_read(line: &[u8], target: &mut [u64], out: &mut [u8; 4096]) -> usize
     ensures { λ r. ⌜ r ≤ 4096 ⌝ }
 {
     let h = lines::read_line(line, target);
-    if !same_head(line, h) {
+    if !head_agrees(line, h) {
         return 0;
     }
     read(h, target, out)

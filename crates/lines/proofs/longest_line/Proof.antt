@@ -2,7 +2,6 @@
 use mathlib.Core.Path.{refl}
 use Rattle.numbers.specs.Limits.{mostPrecision, limbsFor}
 use Rattle.lines.specs.Line.{shortestLine, longestLine}
-use borrow.Author.Needs.{needs}
 use Rattle.lines.proofs.longest_line.Statement.{statement}
 use Rattle.lines.proofs.longest_line.Tie as tie
 

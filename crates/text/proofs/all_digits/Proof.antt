@@ -1,10 +1,8 @@
 -- `text::all_digits`: what is left decides, as long as digits were passed. Assumes nothing.
-use mathlib.Core.Path.{_≡_, refl, sym, _∙_}
+use mathlib.Core.Path.{_≡_}
 use Prim.Native.Nat.{_≤_, _-_}
-use native.Mathlib.Numerals.{add-one}
 use native.Mathlib.Omega.{arith}
 use lib.ListN.{length, drop}
-use lib.Seq.{drop-cons, drop-length}
 use Rattle.text.specs.Digits.{allDigits}
 use Rattle.text.proofs.Digits.{passed, stopped, ended}
 use borrow.Author.Needs.{needs}

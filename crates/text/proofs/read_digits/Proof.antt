@@ -1,5 +1,5 @@
 -- `text::read_digits`: after i digits the value is that of the first i. Assumes nothing.
-use mathlib.Core.Path.{_≡_, refl, sym, ap, _∙_}
+use mathlib.Core.Path.{_≡_, refl, ap, _∙_}
 use Prim.Native.Nat.{ℕ, _≤_, _-_, _%_, _^_}
 use native.Mathlib.Omega.{arith}
 use mathlib.Core.List.{List, []}

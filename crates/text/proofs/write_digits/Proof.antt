@@ -1,5 +1,5 @@
 -- `text::write_digits`: after some digits the end of the room holds as many of the number's last. Assumes nothing.
-use mathlib.Core.Path.{_≡_, refl, sym, ap, _∙_}
+use mathlib.Core.Path.{_≡_, refl, sym}
 use mathlib.Core.List.{List, []}
 use Prim.Native.Nat.{ℕ, suc, _≤_, _-_, _/_, _^_}
 use native.Mathlib.Nat.{div-one, sub-zero}

@@ -1,6 +1,5 @@
 -- `lines::reading::digits_head`: each return is the first test that fails, or that none does. Assumes nothing.
 use mathlib.Core.List.{List, []}
-use mathlib.Core.Bool.{not}
 use Prim.Native.Nat.{ℕ, _<_, _≤_}
 use lib.ListN.{length}
 use borrow.Author.Tests.{not-true, not-false}

@@ -1,5 +1,4 @@
 -- `lines::reading::digits_hold`: LF at the end, then the digits before it. Assumes nothing.
-use native.Mathlib.Omega.{arith}
 use mathlib.Core.Path.{refl}
 use Rattle.lines.proofs.Fields.{no-end, digits-left}
 use borrow.Author.Needs.{needs}

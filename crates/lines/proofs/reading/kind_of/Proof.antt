@@ -1,6 +1,5 @@
 -- `lines::reading::kind_of`: the test of the definition. Assumes nothing.
 use Rattle.lines.proofs.Fields.{regular-kind, zero-kind}
-use borrow.Author.Needs.{needs}
 use Rattle.lines.proofs.reading.kind_of.Statement.{statement}
 use Rattle.lines.proofs.reading.kind_of.Tie as tie
 

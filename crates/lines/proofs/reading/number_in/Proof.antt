@@ -1,7 +1,7 @@
 -- `lines::reading::number_in`: the fields of the definition, each below its width. Assumes nothing.
 use Rattle.lines.proofs.Fields.{kind-is}
 use native.Mathlib.Omega.{arith}
-use mathlib.Core.Path.{sym, _∙_}
+use mathlib.Core.Path.{_∙_}
 use Rattle.lines.proofs.Fields.{number-fields, shortest-is, signed-back}
 use borrow.Author.Needs.{needs}
 use Rattle.lines.proofs.reading.number_in.Statement.{statement}

@@ -1,7 +1,7 @@
 -- `lines::reading::read_head`: too short, no digits, else as the digits say. Assumes nothing.
 use borrow.Author.Tests.{not-true, not-false}
 use native.Mathlib.Omega.{arith}
-use mathlib.Core.Path.{refl, sym, ap, _∙_}
+use mathlib.Core.Path.{refl, sym, _∙_}
 use Rattle.lines.proofs.Fields.{shortest-is}
 use Rattle.lines.proofs.Tests.{refused-head, too-short, no-digits}
 use borrow.Author.Needs.{needs}

@@ -1,7 +1,6 @@
 -- `lines::reading::refused`: the number of the definition. Assumes nothing.
 use mathlib.Core.Path.{refl}
 use Rattle.checks.specs.Number.{nothing}
-use borrow.Author.Needs.{needs}
 use Rattle.lines.proofs.reading.refused.Statement.{statement}
 use Rattle.lines.proofs.reading.refused.Tie as tie
 

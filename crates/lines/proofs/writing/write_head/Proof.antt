@@ -3,13 +3,12 @@ use mir.Facts.{toZ-ofZ}
 use mir.Val.{SFits}
 use mir.Syntax.{w32}
 use Rattle.lines.proofs.Room.{two-lengths}
-use Prim.Native.Nat.{ℕ, _≤_}
-use lib.ListN.{length}
+use Prim.Native.Nat.{ℕ}
 use Rattle.text.specs.Digits.{numeral}
 use Rattle.text.proofs.Numeral.{length-numeral}
 use native.Mathlib.Omega.{arith}
-use mathlib.Core.Path.{_≡_, refl, sym, _∙_}
-use mathlib.Core.List.{List, [], _++_}
+use mathlib.Core.Path.{refl, sym, _∙_}
+use mathlib.Core.List.{List, []}
 use Rattle.lines.proofs.Fields.{shortest-is}
 use Rattle.lines.proofs.Room.{onto-nothing, put-numeral, head-parts}
 use borrow.Author.Needs.{needs}

@@ -1,6 +1,5 @@
 -- `lines::writing::write_limbs`: from the top down, the digits of the limbs passed stand at the start. Assumes nothing.
 use Rattle.text.specs.Digits.{numeral}
-use mathlib.Core.List.{_++_}
 use native.Mathlib.Omega.{arith}
 use mathlib.Core.Path.{_≡_, refl, sym, ap, _∙_}
 use mathlib.Core.List.{List, []}

@@ -1,6 +1,6 @@
 -- `lines::writing::write_line`: the checks of the number alone, then the room, then the line. Assumes nothing.
 use native.Mathlib.Omega.{arith}
-use mathlib.Core.Path.{refl, sym, ap, _∙_}
+use mathlib.Core.Path.{sym, ap, _∙_}
 use Rattle.checks.specs.declared.Refusal.{Refusal}
 use Rattle.lines.proofs.Answered.{refused-alone, short-room, room-holds, all-written}
 use borrow.Author.Needs.{needs}

@@ -3,7 +3,7 @@ use lib.ListN.{length-set}
 use native.Mathlib.Omega.{arith}
 use mathlib.Core.Path.{refl, sym, _∙_}
 use Rattle.lines.proofs.Fields.{shortest-is}
-use Rattle.lines.proofs.Size.{at-least, zero-length, regular-length}
+use Rattle.lines.proofs.Size.{at-least, regular-length}
 use Rattle.lines.proofs.Answered.{zero-written, regular-written}
 use borrow.Author.Needs.{needs}
 use Rattle.lines.proofs.writing.write_whole.Statement.{statement}
