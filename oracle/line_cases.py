@@ -1,10 +1,17 @@
 """Numbers to write and lines to read."""
 
+from itertools import combinations
+
 from cases import LARGE, Draw, an_operand, spoiled
-from kernel import BASE, limb_count, power
+from kernel import BASE, REGULAR, limb_count, power
 from lines import SHORTEST, line_of
 
 ENDS = (BASE.most_exponent, BASE.least_exponent, 0, 1, -1)
+
+# faults in the order of checking; 8 is the exact size
+SHORT, ROOM = "short", "room"
+OF_READING = (SHORT, 9, 10, 2, 8, 4, 3, 5)
+OF_WRITING = (2, 3, 4, 5, ROOM)
 
 
 def a_number(draw):
@@ -30,6 +37,23 @@ def to_write():
     for _ in range(200):
         number = spoiled(draw, an_operand(draw), [fault for fault in (2, 3, 4, 5) if draw.below(3) == 0])
         yield number, draw.of((0, 14, 15, 31, 47, 64, 100)), draw.fill()
+    yield from faulty_numbers()
+
+
+def alone_and_paired(faults):
+    """Each fault alone, and every two at once: the earlier one must be named."""
+    yield from ([fault] for fault in faults)
+    yield from combinations(faults, 2)
+
+
+def faulty_numbers():
+    """(number, room, fill) with the faults wanted."""
+    draw = Draw("faults written")
+    for faults in alone_and_paired(OF_WRITING):
+        for _ in range(4):
+            number = an_operand(draw)
+            room = line_size(number) - (draw.of((1, 2, SHORTEST)) if ROOM in faults else 0)
+            yield spoiled(draw, number, [fault for fault in faults if fault != ROOM]), room, draw.fill()
 
 
 def raw_line(kind_byte, precision, exponent, limbs):
@@ -104,9 +128,42 @@ def faulty_lines(draw):
         yield raw_line(kind_byte, precision, exponent, limbs), max(length, 0)
 
 
+def line_with(draw, faults):
+    """(line, target length) with the faults wanted."""
+    precision = draw.of((53, 64, 65, 100, 128))
+    number = draw.regular(precision, draw.of(ENDS))
+    if 5 not in faults and draw.below(3) == 0:
+        number = draw.zero(precision)
+    number = spoiled(draw, number, [fault for fault in faults if fault in (4, 5)])
+    limbs = number.limbs if number.kind == REGULAR else ()
+    if 8 in faults:
+        limbs = limbs[1:] if limbs and draw.below(2) else limbs + (power(63),)
+    length = limb_count(precision) + (draw.of((1, -1)) if 3 in faults else 0)
+    precision = draw.of((0, 1, 4097, 65535)) if 2 in faults else precision
+    kind_byte = draw.of((4, 5, 16, 255)) if 10 in faults else 2 * number.kind + number.negative
+    line = raw_line(kind_byte, precision, number.exponent, limbs)
+    if 9 in faults:
+        line = with_byte(line, draw.below(len(line) - 1), draw.of(b"ABCDEFGg/:@`\n\r \0"))
+    return (line[:draw.below(SHORTEST)] if SHORT in faults else line), length
+
+
+def orders(draw):
+    for faults in alone_and_paired(OF_READING):
+        for _ in range(4):
+            yield line_with(draw, faults)
+
+
+def foreign_lines(draw):
+    """Other ends of a line, capitals, two lines at once."""
+    for _ in range(12):
+        line, precision = sound(draw)
+        for other in (line[:-1] + b"\r\n", line[:-1] + b"\r", line[:-1], line + b"\n", line.upper(), line + line, b" " + line):
+            yield other, limb_count(precision)
+
+
 def to_read():
     """(line, target length, fill)."""
     draw = Draw("lines read")
-    for source in (good_lines, cut_lines, strange_bytes, faulty_lines):
+    for source in (good_lines, cut_lines, strange_bytes, faulty_lines, orders, foreign_lines):
         for line, length in source(draw):
             yield line, length, draw.fill()

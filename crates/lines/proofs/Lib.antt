@@ -1,0 +1,10 @@
+pub mod Fields
+pub mod Tests
+pub mod Room
+pub mod Size
+pub mod Answered
+pub mod Accepted
+pub mod RoundTrip
+pub mod OneLine
+pub mod Longest
+pub mod Unique
