@@ -157,6 +157,8 @@ module _ (from k : ℕ) (before after : List ℕ) (leap : Leap from k (length be
     same-length = same;
     same-skip = ap (λ (u : Window). u .skipped) w-is ∙ (unfold leaptTo in refl);
     no-tail = ap (λ (u : Window). u .tail) w-is ∙ (unfold leaptTo in refl);
+    full = ap (λ (u : Window). u .filled) w-is ∙ (unfold leaptTo in refl);
+    value = v ∙ head carry ∙ ap (λ (u : Window). headOf u after) (sym w-is);
     shows = λ h. subst (λ (u : Window). Shows u after (k + 1) D) (sym w-is)
         (show-open (leaptTo from carry (length after)) after (k + 1) D (omega (arith, leap .some)) (unfold leaptTo in omega arith) (unfold leaptTo in refl) (unfold leaptTo in refl) (unfold leaptTo in refl)
         (unfold leaptTo in omega (arith, leap .room)) (v ∙ head carry) (λ s. unfold leaptTo in rw places h));

@@ -6,7 +6,7 @@ use mathlib.Core.List.{List}
 use lib.ListN.{length}
 use Rattle.limb.specs.Carry.{bit}
 use Rattle.limb.specs.Value.{valueOf}
-use Rattle.walk.specs.Window.{Shows}
+use Rattle.walk.specs.Window.{headOf, Shows}
 use Rattle.walk.specs.declared.state.Window.{Window}
 use Rattle.walk.specs.declared.state.Tail.the-variants.{Empty}
 
@@ -40,4 +40,6 @@ pub record Leapt (from k D : ℕ) (before after : List ℕ) (w : Window) : Type 
   pub same-length : length after ≡ length before
   pub same-skip : w .skipped ≡ from
   pub no-tail : w .tail ≡ Empty
+  pub full : w .filled ≡ length after
+  pub value : D ≡ headOf w after
   pub shows : 2 ^ (64 * (k - from - 1)) < D → Shows w after k D
