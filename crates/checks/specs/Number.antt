@@ -19,6 +19,10 @@ isZeroKind Zero = true
 unfoldable pub operandOf : Number → List ℕ → Operand
 operandOf x l = record { negative = x .negative; isZero = isZeroKind (x .kind); precision = x .precision; exponent = counted (x .exponent); limbs = l }
 
+-- what a refused call returns: "+0 of precision 2"
+unfoldable pub nothing : Number
+nothing = record { negative = false; kind = Zero; precision = 2; exponent = pos 0 }
+
 -- the same with the other sign
 unfoldable pub turnedNumber : Number → Number
 turnedNumber x = record { negative = not (x .negative); kind = x .kind; precision = x .precision; exponent = x .exponent }
