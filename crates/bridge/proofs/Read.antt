@@ -21,6 +21,7 @@ use Rattle.depth.proofs.Columns.{digits-counted}
 use Rattle.decide.specs.Decide.{readPart}
 use Rattle.decide.proofs.Beyond.{read-is}
 use Rattle.walk.specs.Column.{readTo}
+use Rattle.walk.proofs.Reading.{read-fewer}
 
 -- ---- digits moved up and down
 
@@ -72,18 +73,7 @@ read-lt k gap l h =
     room : (n c : ℕ) → n + c ≤ c - gap + (n + gap)
     room n c = omega arith
 
--- fewer columns are the first of more
-pub read-fewer : (k j gap : ℕ) (l : List ℕ) → readTo (k + j) gap l / 2 ^ (64 * j) ≡ readTo k gap l
-unfolding readTo
-read-fewer k j gap l =
-    div-div-eq-div-mul (valueOf l * 2 ^ (64 * (k + j))) (2 ^ (64 * length l + gap)) (2 ^ (64 * j))
-    ∙ ap (λ (n : ℕ). n / (2 ^ (64 * length l + gap) * 2 ^ (64 * j))) (ap (λ (n : ℕ). valueOf l * 2 ^ n) (both k j) ∙ ap (λ (n : ℕ). valueOf l * n) (pow-add 2 (64 * k) (64 * j)) ∙ sym (mul-assoc (valueOf l) (2 ^ (64 * k)) (2 ^ (64 * j))))
-    ∙ mul-div-mul-right (valueOf l * 2 ^ (64 * k)) (2 ^ (64 * length l + gap)) (pow-pos (64 * j))
-  where
-    both : (k j : ℕ) → 64 * (k + j) ≡ 64 * k + 64 * j
-    both k j = omega arith
-
--- and give the order
+-- more columns keep the order
 pub read-later : (k j gap height : ℕ) (l h : List ℕ) → readTo k gap l < readTo k height h → readTo (k + j) gap l < readTo (k + j) height h
 read-later k j gap height l h lt = elim (le-or-lt (readTo (k + j) height h) (readTo (k + j) gap l)) [
   | inl e ↦ absurd (clash (le-trans (le-of-eq (sym (read-fewer k j height h))) (le-trans (shr-mono e) (le-of-eq (read-fewer k j gap l)))) lt)

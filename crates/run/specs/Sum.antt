@@ -19,6 +19,11 @@ pub record Subtracted (before operand : List ℕ) (borrow : Bool) (after : List 
   pub same-length : length after ≡ length before
   pub value : valueOf after + valueOf (take (length before) operand) + bit borrow ≡ valueOf before + (2 ^ 64) ^ length before * bit out
 
+-- operand - before - borrow is after, with the borrow out on top of the operand
+pub record Reversed (before operand : List ℕ) (borrow : Bool) (after : List ℕ) (out : Bool) : Type 0 where
+  pub same-length : length after ≡ length before
+  pub value : valueOf after + valueOf before + bit borrow ≡ valueOf (take (length before) operand) + (2 ^ 64) ^ length before * bit out
+
 -- a sum into the part of the target from limb start on; the limbs below it stay
 pub record AddedAt (start : ℕ) (before operand : List ℕ) (carry : Bool) (after : List ℕ) (out : Bool) : Type 0 where
   pub below : take start after ≡ take start before

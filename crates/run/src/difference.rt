@@ -1,6 +1,6 @@
 // One run of limbs taken off another, in place. The columns are those of sum.rt.
 ghost use lib.ListN.{drop};
-ghost use Rattle.run.specs.Sum.{Subtracted, SubtractedAt};
+ghost use Rattle.run.specs.Sum.{Subtracted, SubtractedAt, Reversed};
 use crate::part::limb_at;
 use crate::part::part_from;
 
@@ -35,4 +35,26 @@ pub fn sub_at(target: &mut [u64], start: usize, operand: &[u64], borrow: bool) -
     } else {
         borrow
     }
+}
+
+// The operand less the target and a borrow, as far as the target goes, in the target's place. Returns the borrow out.
+pub fn rsub_into(target: &mut [u64], operand: &[u64], borrow: bool) -> bool
+    ensures { λ r. ⌜ Reversed (now (target .entry)) (now (operand .entry)) borrow (now (target .exit)) r ⌝ }
+{
+    let mut up = borrow;
+    let mut i = 0;
+    while i < target.len() {
+        let d = limb::sub_borrow(limb_at(operand, i), target[i], up);
+        target[i] = d.difference;
+        up = d.borrow;
+        i += 1;
+    }
+    up
+}
+
+// The same of the operand's limbs from start on: limb start meets the target's lowest.
+pub fn rsub_from(target: &mut [u64], operand: &[u64], start: usize, borrow: bool) -> bool
+    ensures { λ r. ⌜ Reversed (now (target .entry)) (drop start (now (operand .entry))) borrow (now (target .exit)) r ⌝ }
+{
+    rsub_into(target, part_from(operand, start), borrow)
 }

@@ -4,6 +4,8 @@ mod sum; // sum.rt: one run added into another
 mod difference; // difference.rt: one run taken off another
 mod shift; // shift.rt: bits at any offset, and moves by bits
 
+pub use difference::rsub_from;
+pub use difference::rsub_into;
 pub use difference::sub_at;
 pub use difference::sub_from;
 pub use difference::sub_into;

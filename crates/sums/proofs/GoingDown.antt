@@ -142,7 +142,7 @@ module _ (o : Mode) (p : ℕ) (x y : Operand) (from : ℕ) (course : Course x y 
           ∙ ap (λ (n : ℕ). n + secondRead x y 0) (read-none 0 0 (x .limbs) (course .ordered .first .limb) (omega arith)) ∙ ap (λ (n : ℕ). 0 + n) none
       go false e = difference-is x y from (course .ordered) from e ∙ gone (readTo from 0 (x .limbs)) (readTo from (pairOf x y .gap) (y .limbs)) (course .level e)
 
-  open-before : 1 ≤ from → decideAt o p x y from ≡ false
+  pub open-before : 1 ≤ from → decideAt o p x y from ≡ false
   open-before h = go (pairOf x y .same) refl
     where
       go : (b : Bool) → pairOf x y .same ≡ b → decideAt o p x y from ≡ false

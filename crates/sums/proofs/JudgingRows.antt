@@ -52,7 +52,7 @@ module _ (x y : Operand) (k : ℕ) (d : Ordered x y) (near : k ≤ deepest) wher
   unfolding mostExponent bias
   high = omega (arith, d .first .regular (d .regular) .most)
 
-  pair-modest : Modest (pairOf x y) k
+  pub pair-modest : Modest (pairOf x y) k
   unfolding mostPrecision
   pair-modest =
       record {

@@ -13,3 +13,4 @@ pub mod RegularParts
 pub mod RegularEnd
 pub mod RegularReport
 pub mod RegularLevel
+pub mod AtOnce

@@ -32,7 +32,8 @@ use Rattle.settle.specs.Rows.{rowOf, seenRow, farRow}
 use Rattle.settle.specs.declared.rows.Row.{Row}
 use Rattle.settle.specs.declared.rows.Row.the-variants.{Exact, Plus, Minus, Hole}
 use Rattle.bridge.specs.Verdict.{pairOf, Ordered, exact?}
-use Rattle.bridge.proofs.Read.{read-fewer, read-none}
+use Rattle.walk.proofs.Reading.{read-fewer}
+use Rattle.bridge.proofs.Read.{read-none}
 use Rattle.bridge.proofs.Decision.{leads, equal-decision}
 use Rattle.bridge.proofs.Answers.{cancelled-sum}
 use Rattle.bridge.proofs.Covered.{columns-above}

@@ -3,7 +3,9 @@ use Prim.Native.Nat.{ℕ, suc, _+_, _-_, _*_, _^_, _≤_, _<_}
 use mathlib.Core.Path.{_≡_}
 use mathlib.Core.Bool.{Bool, true, false, cond}
 use mathlib.Core.List.{List}
+use lib.Dec.{ltb}
 use Rattle.limb.specs.Carry.{bit}
+use Rattle.numbers.specs.Limits.{leastExponent, mostExponent}
 use Rattle.numbers.specs.Operand.{Operand}
 use Rattle.rounding.specs.Mode.{Mode, way}
 use Rattle.rounding.specs.Answer.{tooLarge, tooSmall, rounded}
@@ -104,6 +106,32 @@ pub record Arrived (toward : code.Way) (pair : Pair) (first : List ℕ) (w : Win
   pub other : Operand
   pub held : Held mode larger other toward pair first (other .limbs)
   pub reached : Reached larger other w target k
+
+-- the same with what is held of both, where one column fewer fixes nothing
+pub record Arriving (p : ℕ) (toward : code.Way) (pair : Pair) (first second : List ℕ) (w : Window) (target : List ℕ) (k : ℕ) : Type 0 where
+  pub mode : Mode
+  pub larger : Operand
+  pub other : Operand
+  pub held : Held mode larger other toward pair first second
+  pub reached : Reached larger other w target k
+
+-- the columns that fill a target of n limbs, from one on, end within both operands, and no refusal is near
+pub record Prompt (pair : Pair) (first second from n : ℕ) : Type 0 where
+  pub first-long : from + n ≤ first
+  pub second-long : 0 < pair .second → (second ≤ 2 ^ 20) × (64 * (from + n - 1) ≤ 64 * second + pair .gap)
+  pub high : pair .same ≡ true → ltb mostExponent (pair .top + 2) ≡ false
+  pub low : pair .same ≡ false → ltb (pair .top + 1) (leastExponent + 64 * (from + n - 1)) ≡ false
+
+-- what is asked to see that
+pub record Sighted (pair : Pair) (first from n : ℕ) : Type 0 where
+  pub some : 0 < n
+  pub target : n ≤ 2 ^ 20
+  pub first-few : first ≤ 2 ^ 20
+  pub near : from ≤ 2 ^ 19
+  pub gap : pair .gap ≤ 2 ^ 42
+  pub top : pair .top ≤ 2 ^ 42
+  pub alone : pair .second ≡ 0 → pair .same ≡ true
+  pub sum : pair .same ≡ true → from ≡ 0
 
 -- what the tests ask of a pair and a window after k columns
 pub record Measured (pair : Pair) (w : Window) (target : List ℕ) (k : ℕ) : Type 0 where

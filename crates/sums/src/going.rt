@@ -10,6 +10,7 @@ ghost use Rattle.limb.specs.Carry.{bit};
 ghost use Rattle.numbers.specs.Operand.{Operand, spareBits};
 ghost use Rattle.rounding.specs.Mode.{Mode, way};
 ghost use Rattle.decide.specs.Class.{settled};
+ghost use Rattle.decide.specs.Decide.{decideAt};
 ghost use Rattle.decide.specs.Table.{holeBySize};
 ghost use Rattle.walk.specs.Column.{columnOf};
 ghost use Rattle.walk.specs.Rest.{RestOf};
@@ -21,7 +22,10 @@ ghost use Rattle.settle.specs.declared.rows.Way as code;
 ghost use Rattle.bridge.specs.Verdict.{pairOf, refusedBy};
 ghost use Rattle.sums.specs.Ready.{Room};
 ghost use Rattle.sums.specs.declared.going.Verdict.the-variants as verdict;
-ghost use Rattle.sums.specs.Course.{Course, Judged, Stopped, Held, Begun, Going, Reached, Underway, Arrived, Measured, Moderate, refusedAs, verdictAs, open?};
+ghost use Rattle.sums.specs.Course.{Course, Judged, Stopped, Held, Begun, Going, Reached, Underway, Arrived, Arriving, Prompt, Measured, Moderate, refusedAs, verdictAs, open?};
+use crate::prompt::fill;
+use crate::prompt::has_lead;
+use crate::prompt::is_prompt;
 use settle::Pair;
 use settle::Row;
 use settle::Way;
@@ -269,6 +273,70 @@ fn descend(
     }
 }
 
+// Walks on after k columns, of which one fewer fixes nothing.
+fn walk_on(
+    way: Way,
+    p: u64,
+    pair: Pair,
+    first: &[u64],
+    second: &[u64],
+    w: Window,
+    k: u64,
+    target: &mut [u64],
+) -> Walked
+    requires { ⌜ Room p (length (now target)) × Arriving p way pair (now first) (now second) w (now target) k ⌝ }
+    ensures { λ r. ⌜ ((o : Mode) (x y : Operand) → Held o x y way pair (now (first .entry)) (now (second .entry)) → Reached x y w (now (target .entry)) k → (1 < k → decideAt o p x y (k - 1) ≡ false) → Stopped o p x y r (now (target .exit))) ⌝ }
+{
+    let verdict = judge(way, w, target, p, pair, first, k);
+    if is_open(verdict) {
+        return descend(way, p, pair, first, second, w, k, target);
+    }
+    Walked {
+        window: w,
+        columns: k,
+        verdict: verdict,
+    }
+}
+
+// Walks column by column from one on.
+fn walk_slowly(
+    way: Way,
+    p: u64,
+    pair: Pair,
+    first: &[u64],
+    second: &[u64],
+    from: u64,
+    target: &mut [u64],
+) -> Walked
+    requires { ⌜ Room p (length (now target)) × Begun way pair (now first) (now second) from ⌝ }
+    ensures { λ r. ⌜ ((o : Mode) (x y : Operand) → Held o x y way pair (now (first .entry)) (now (second .entry)) → Course x y from → Stopped o p x y r (now (target .exit))) ⌝ }
+{
+    let w = walk::start(from);
+    descend(way, p, pair, first, second, w, from, target)
+}
+
+// Fills the target at once, and walks on.
+fn walk_promptly(
+    way: Way,
+    p: u64,
+    pair: Pair,
+    first: &[u64],
+    second: &[u64],
+    from: u64,
+    target: &mut [u64],
+) -> Walked
+    requires { ⌜ Room p (length (now target)) × Begun way pair (now first) (now second) from × Prompt pair (length (now first)) (length (now second)) from (length (now target)) ⌝ }
+    ensures { λ r. ⌜ ((o : Mode) (x y : Operand) → Held o x y way pair (now (first .entry)) (now (second .entry)) → Course x y from → Stopped o p x y r (now (target .exit))) ⌝ }
+{
+    let w = fill(pair, first, second, from, target);
+    if has_lead(w, target) {
+        let k = from + (target.len() as u64);
+        walk_on(way, p, pair, first, second, w, k, target)
+    } else {
+        walk_slowly(way, p, pair, first, second, from, target)
+    }
+}
+
 // Walks from a column on, until the answer is fixed. `from` columns are passed over.
 pub fn walk_down(
     way: Way,
@@ -282,6 +350,9 @@ pub fn walk_down(
     requires { ⌜ Room p (length (now target)) × Begun way pair (now first) (now second) from ⌝ }
     ensures { λ r. ⌜ ((o : Mode) (x y : Operand) → Course x y from → pair ≡ pairOf x y → now (first .entry) ≡ x .limbs → (y .isZero ≡ false → now (second .entry) ≡ y .limbs) → wayIs way ≡ Rattle.rounding.specs.Mode.way o (x .negative) → Stopped o p x y r (now (target .exit))) ⌝ }
 {
-    let w = walk::start(from);
-    descend(way, p, pair, first, second, w, from, target)
+    if is_prompt(pair, first.len(), second.len(), from, target.len()) {
+        walk_promptly(way, p, pair, first, second, from, target)
+    } else {
+        walk_slowly(way, p, pair, first, second, from, target)
+    }
 }

@@ -1,5 +1,6 @@
 // Sums and differences of two numbers, rounded to a target precision, with the columns that fixed the answer.
 mod report; // report.rt: what a sum reports
+mod prompt; // prompt.rt: the columns that fill the target, read at once
 mod going; // going.rt: the walk down the columns
 mod regular; // regular.rt: sums of regular numbers
 mod entry; // entry.rt: add, subtract, re-round

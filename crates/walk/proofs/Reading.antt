@@ -67,6 +67,17 @@ module _ (gap : ℕ) (l : List ℕ) where
       ap (λ (n : ℕ). valueOf l * 2 ^ n / 2 ^ (64 * length l + gap)) (omega arith) ∙ ap (λ (n : ℕ). n / 2 ^ (64 * length l + gap)) (moved-twice (valueOf l) d (64 * length l + gap))
       ∙ shl-shr (valueOf l * 2 ^ d) (64 * length l + gap)
 
+-- fewer columns are the first of more
+pub read-fewer : (k j gap : ℕ) (l : List ℕ) → readTo (k + j) gap l / 2 ^ (64 * j) ≡ readTo k gap l
+unfolding readTo
+read-fewer k j gap l =
+    div-div-eq-div-mul (valueOf l * 2 ^ (64 * (k + j))) (2 ^ (64 * length l + gap)) (2 ^ (64 * j))
+    ∙ ap (λ (n : ℕ). n / (2 ^ (64 * length l + gap) * 2 ^ (64 * j))) (ap (λ (n : ℕ). valueOf l * 2 ^ n) (both k j) ∙ ap (λ (n : ℕ). valueOf l * n) (pow-add 2 (64 * k) (64 * j)) ∙ sym (mul-assoc (valueOf l) (2 ^ (64 * k)) (2 ^ (64 * j))))
+    ∙ mul-div-mul-right (valueOf l * 2 ^ (64 * k)) (2 ^ (64 * length l + gap)) (pow-pos (64 * j))
+  where
+    both : (k j : ℕ) → 64 * (k + j) ≡ 64 * k + 64 * j
+    both k j = omega arith
+
 -- ---- a column as bits of limbs
 
 -- m limbs of 0 put below
