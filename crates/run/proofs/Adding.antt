@@ -1,4 +1,4 @@
--- Laws of `Added` and `Subtracted`: where nothing is left to add, and that two answers that meet the same promise agree. Assumes nothing.
+-- Laws of `Added`, `Subtracted` and `Reversed`: where nothing is left to add, and that two answers that meet the same promise agree. Assumes nothing.
 use mathlib.Core.Path.{_≡_, refl, sym, ap, _∙_}
 use mathlib.Core.Bool.{Bool}
 use mathlib.Core.List.{List, [], _++_}
@@ -12,7 +12,7 @@ use Rattle.limb.specs.Carry.{bit}
 use Rattle.limb.specs.Value.{valueIn, Below}
 use Rattle.limb.proofs.Carry.{sum-unique, difference-unique}
 use Rattle.limb.proofs.Value.{value-nil, value-split, value-lt, value-unique}
-use Rattle.run.specs.Sum.{Added, Subtracted, AddedAt, SubtractedAt}
+use Rattle.run.specs.Sum.{Added, Subtracted, Reversed, AddedAt, SubtractedAt}
 
 -- before any limb of the operand is added, the carry k stands at the bottom
 pub none-added : (B : ℕ) (t o : List ℕ) (k : ℕ) → valueIn B t + B ^ 0 * k ≡ valueIn B t + valueIn B (take 0 o) + k
@@ -25,7 +25,7 @@ nothing-added o carry = record { same-length = refl; value = none-added (2 ^ 64)
 pub nothing-subtracted : (o : List ℕ) (borrow : Bool) → Subtracted [] o borrow [] borrow
 nothing-subtracted o borrow = record { same-length = refl; value = sym (none-added (2 ^ 64) [] o (bit borrow)) }
 
--- two answers that meet the promise of a sum, or of a difference, are one
+-- two answers that meet the promise of a sum, or of a difference either way, are one
 module _ (xs ys : List ℕ) (p q : Bool) (hx : Below (2 ^ 64) xs) (hy : Below (2 ^ 64) ys) (before operand : List ℕ) (carry : Bool) where
   below-top : (l : List ℕ) → Below (2 ^ 64) l → length l ≡ length before → valueIn (2 ^ 64) l < (2 ^ 64) ^ length before
   below-top l h e = rw e at (value-lt (2 ^ 64) l h)
@@ -40,6 +40,13 @@ module _ (xs ys : List ℕ) (p q : Bool) (hx : Below (2 ^ 64) xs) (hy : Below (2
   subtracted-unique a b =
       let e = difference-unique ((2 ^ 64) ^ length before) (valueIn (2 ^ 64) xs) (valueIn (2 ^ 64) ys)
       (valueIn (2 ^ 64) (take (length before) operand) + bit carry) (valueIn (2 ^ 64) before) p q
+      (below-top xs hx (a .same-length)) (below-top ys hy (b .same-length)) (sym (add-assoc _ _ _) ∙ a .value) (sym (add-assoc _ _ _) ∙ b .value) in
+      (value-unique (2 ^ 64) xs ys hx hy (a .same-length ∙ sym (b .same-length)) (e .0), e .1)
+
+  pub reversed-unique : Reversed before operand carry xs p → Reversed before operand carry ys q → (xs ≡ ys) × (p ≡ q)
+  reversed-unique a b =
+      let e = difference-unique ((2 ^ 64) ^ length before) (valueIn (2 ^ 64) xs) (valueIn (2 ^ 64) ys)
+      (valueIn (2 ^ 64) before + bit carry) (valueIn (2 ^ 64) (take (length before) operand)) p q
       (below-top xs hx (a .same-length)) (below-top ys hy (b .same-length)) (sym (add-assoc _ _ _) ∙ a .value) (sym (add-assoc _ _ _) ∙ b .value) in
       (value-unique (2 ^ 64) xs ys hx hy (a .same-length ∙ sym (b .same-length)) (e .0), e .1)
 
