@@ -49,7 +49,7 @@ onto-all s r h = rw (drop-of-length-le r h) (append-nil s)
 pub length-limb-digits : (l : List ℕ) → length (limbDigits l) ≡ 16 * length l
 unfolding limbDigits
 length-limb-digits [] = refl
-length-limb-digits (v ∷ l) = rw (length-append (limbDigits l) (numeral 16 v), length-limb-digits l, length-numeral 16 v) (omega arith)
+length-limb-digits (v ∷ l) = simp (length-append, length-limb-digits l, length-numeral) (omega arith)
 
 -- the next limb down
 pub limbs-more : (l : List ℕ) (i j : ℕ) → j < length l → i ≡ suc j → limbDigits (drop j l) ≡ limbDigits (drop i l) ++ numeral 16 (getD l j 0)
