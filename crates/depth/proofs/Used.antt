@@ -1,4 +1,4 @@
--- The limbs used of an operand: no more than it has, and no fewer for more columns.
+-- The limbs used of an operand: no more than it has, no fewer for more columns, and as many as the digits read take.
 use mathlib.Core.Path.{_≡_, refl}
 use mathlib.Core.Bool.{Bool, true, false, cond}
 use Prim.Native.Nat.{ℕ, _+_, _-_, _*_, _/_, _≤_, _<_, min, zero-le}
@@ -7,7 +7,9 @@ use borrow.Author.Tests.{leb-true, leb-false}
 use lib.Dec.{leb}
 use Rattle.numbers.specs.Limits.{limbsFor}
 use Rattle.numbers.specs.Operand.{Operand}
+use Rattle.numbers.proofs.Limits.{limbs-hold, limbs-fewest}
 use Rattle.depth.specs.Columns.{limbsUsed}
+use Rattle.depth.specs.Read.{unread}
 
 least-of : (a b : ℕ) → min a b ≤ a
 least-of a b = omega arith
@@ -45,3 +47,36 @@ used-mono t j k x h = go (x .isZero) (leb (64 * j) (t - x .exponent)) (leb (64 *
     go false true c e f = zero-le
     go false false true e f = absurd (clash (t - x .exponent) (leb-false _ _ e) (leb-true _ _ f))
     go false false false e f = more (limbsFor (x .precision)) (t - x .exponent)
+
+-- of p digits, d reach into the columns read: their limbs
+held : (p L d : ℕ) → p ≤ 64 * L → p - (p - d) ≤ 64 * min L ((d + 63) / 64)
+held p L d h = omega arith
+
+few : (p L d : ℕ) → 64 * L < p + 64 → 64 * min L ((d + 63) / 64) < p - (p - d) + 64
+few p L d h = omega arith
+
+none : (p c d : ℕ) → c ≤ d → p - (p - (c - d)) ≤ 0
+none p c d h = omega arith
+
+-- the limbs used of a regular operand hold every digit that is read
+pub used-hold : (t k : ℕ) (x : Operand) → x .isZero ≡ false → x .precision - unread t k x ≤ 64 * limbsUsed t k x
+unfolding limbsUsed unread
+used-hold t k x r = rw r (go (leb (64 * k) (t - x .exponent)) refl)
+  where
+    go : (b : Bool) → leb (64 * k) (t - x .exponent) ≡ b
+        → x .precision - (x .precision - (64 * k - (t - x .exponent))) ≤ 64 * cond b 0 (min (limbsFor (x .precision)) ((64 * k - (t - x .exponent) + 63) / 64))
+    go true e = none (x .precision) (64 * k) (t - x .exponent) (leb-true _ _ e)
+    go false e = held (x .precision) (limbsFor (x .precision)) (64 * k - (t - x .exponent)) (limbs-hold (x .precision))
+
+-- and no fewer would
+pub used-fewest : (t k : ℕ) (x : Operand) → x .isZero ≡ false → 64 * limbsUsed t k x < x .precision - unread t k x + 64
+unfolding limbsUsed unread
+used-fewest t k x r = rw r (go (leb (64 * k) (t - x .exponent)) refl)
+  where
+    some : (a : ℕ) → 64 * 0 < a + 64
+    some a = omega arith
+
+    go : (b : Bool) → leb (64 * k) (t - x .exponent) ≡ b
+        → 64 * cond b 0 (min (limbsFor (x .precision)) ((64 * k - (t - x .exponent) + 63) / 64)) < x .precision - (x .precision - (64 * k - (t - x .exponent))) + 64
+    go true e = some (x .precision - (x .precision - (64 * k - (t - x .exponent))))
+    go false e = few (x .precision) (limbsFor (x .precision)) (64 * k - (t - x .exponent)) (limbs-fewest (x .precision))

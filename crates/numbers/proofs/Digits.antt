@@ -1,18 +1,17 @@
 -- A number of p digits as limbs, and back: every mantissa is that of a number of good form. Assumes nothing.
 use mathlib.Core.Path.{_≡_, refl, sym, ap, _∙_, subst}
-use mathlib.Core.Bool.{Bool, true, false, true≢false}
-use mathlib.Core.List.{List, [], _∷_}
+use mathlib.Core.Bool.{false, true≢false}
 use Prim.Native.Nat.{ℕ, zero, suc, _+_, _-_, _*_, _/_, _%_, _^_, _≤_, _<_}
 use native.Mathlib.Nat.{le-trans, le-of-eq, lt-of-lt-of-le, mul-le-mul-right, mod-lt, mod-add-div, le-div-iff-mul-le, mul-mod-left}
 use native.Mathlib.Omega.{arith}
-use lib.ListN.{length, getD}
+use lib.ListN.{length}
 use lib.Pow.{pow-pos, pow-add, shr-lt, shl-shr, shl-lt}
 use Rattle.limb.specs.Value.{valueIn, valueOf, Below}
 use Rattle.limb.proofs.Value.{value-lt, base-pow}
-use Rattle.numbers.specs.Limits.{leastPrecision, limbsFor}
+use Rattle.numbers.specs.Limits.{mostPrecision, leastExponent, limbsFor}
 unfoldable pub use Rattle.numbers.specs.Limbs.{limbsOf}
-use Rattle.numbers.specs.Operand.{Operand, mantissa, lastWeight, spareBits, Regular, WellFormed, turned, zeroLike}
-use Rattle.numbers.proofs.Limits.{two-digits, limbs-hold}
+use Rattle.numbers.specs.Operand.{Operand, mantissa, lastWeight, spareBits, WellFormed, turned, zeroLike}
+use Rattle.numbers.proofs.Limits.{two-digits, weights-counted, limbs-hold}
 
 -- ---- the n limbs of v
 
@@ -64,6 +63,22 @@ mantissa-ge x g r =
     let b = spareBits (x .precision) in
     le-div-iff-mul-le (pow-pos b) .1
     (le-trans (le-of-eq (sym (pow-add 2 (x .precision - 1) b) ∙ ap (λ (n : ℕ). 2 ^ n) (first-and-spare (x .precision) (precision-two x g)))) (g .regular r .lead))
+
+-- ---- what a number of good form is worth: its first digit has the weight 2 ^ (e - 1)
+
+first-weight : (l e p m : ℕ) → 2 ≤ p → p ≤ m → 4 * m < l → l ≤ e → (p - 1 + (e - p) ≡ e - 1) × (p + (e - p) ≡ e)
+first-weight l e p m a b c d = (omega arith, omega arith)
+
+weights : (x : Operand) → WellFormed x → x .isZero ≡ false → (x .precision - 1 + lastWeight x ≡ x .exponent - 1) × (x .precision + lastWeight x ≡ x .exponent)
+unfolding lastWeight
+weights x g r = first-weight leastExponent (x .exponent) (x .precision) mostPrecision (precision-two x g) (g .most) weights-counted (g .regular r .least)
+
+pub worth-lt : (x : Operand) → WellFormed x → x .isZero ≡ false → mantissa x * 2 ^ lastWeight x < 2 ^ x .exponent
+worth-lt x g r = subst (λ (n : ℕ). mantissa x * 2 ^ lastWeight x < 2 ^ n) (weights x g r .1) (shl-lt (x .precision) (lastWeight x) (mantissa-lt x g))
+
+pub worth-ge : (x : Operand) → WellFormed x → x .isZero ≡ false → 2 ^ (x .exponent - 1) ≤ mantissa x * 2 ^ lastWeight x
+worth-ge x g r =
+    le-trans (le-of-eq (ap (λ (n : ℕ). 2 ^ n) (sym (weights x g r .0)) ∙ pow-add 2 (x .precision - 1) (lastWeight x))) (mul-le-mul-right (2 ^ lastWeight x) (mantissa-ge x g r))
 
 -- ---- x with other digits
 

@@ -15,7 +15,12 @@ pub precisions-some : leastPrecision ≤ mostPrecision
 unfolding leastPrecision mostPrecision
 precisions-some = omega arith
 
--- nor is that of exponents
+-- it goes from 2 to 4,096
+pub precisions-are : (leastPrecision ≡ 2) × (mostPrecision ≡ 4096)
+unfolding leastPrecision mostPrecision
+precisions-are = (refl, refl)
+
+-- nor is the range of exponents
 pub range-some : leastExponent ≤ mostExponent
 unfolding leastExponent mostExponent bias
 range-some = omega arith
