@@ -1,8 +1,8 @@
 -- Columns, and what it is to agree in the first k of them. Definitions only.
 -- Document 01, "Columns and depth".
-use Prim.Native.Nat.{ℕ, _+_, _-_, _*_, _/_, _%_, _^_, _≤_, _<_, min, max}
+use Prim.Native.Nat.{ℕ, _+_, _-_, _*_, _/_, _%_, _^_, _<_, min, max}
 use mathlib.Core.Path.{_≡_}
-use mathlib.Core.Bool.{Bool, true, false, cond}
+use mathlib.Core.Bool.{cond}
 use lib.Dec.{ltb, leb}
 use Rattle.numbers.specs.Limits.{limbsFor}
 use Rattle.numbers.specs.Operand.{Operand, mantissa, lastWeight, WellFormed}

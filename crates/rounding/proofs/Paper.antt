@@ -54,10 +54,6 @@ up-smallest p false m P M true k r h = absurd (omega arith)
 up-smallest p true m P M true k r h = under-largest p m k P r h
 up-smallest p true m P M false k r h = tt
 
-pub zero-largest : (p : ℕ) (n : Bool) (m : ℕ) → 0 < p → (k : ℕ) → Rep p k → k ≤ m → k ≤ selected zeroward p n m
-unfolding selected way
-zero-largest p n m P k r h = under-largest p m k P r h
-
 -- beyond zero nothing is closer than zero is
 across : (m k s : ℕ) → dist s m ≤ dist 0 m → dist s m ≤ k + m
 across m k s h = omega arith

@@ -84,16 +84,6 @@ chosen-shift w p m j P = elim (le-or-lt (size m) p) [ inl h ↦ small h | inr h 
         let e : unit p (m * 2 ^ j) ≡ u * 2 ^ j = ap (λ (x : ℕ). 2 ^ (x - p)) (size-shift m j M) ∙ ap (λ (x : ℕ). 2 ^ x) (more (size m) p j h) ∙ pow-add 2 (size m - p) j in
         ap (λ (x : ℕ). quotient w (m * 2 ^ j) x * x) e ∙ ap (λ (x : ℕ). x * (u * 2 ^ j)) (quot-shift w m u (2 ^ j) (unit-pos p m) (pow-pos j)) ∙ sym (mul-assoc (quotient w m u) u (2 ^ j))
 
--- so the laws hold against every p-digit number, also those that lie between the units
-pub under-largest-all : (p m j n : ℕ) → 0 < p → Rep p n → n ≤ m * 2 ^ j → n ≤ chosen under p m * 2 ^ j
-under-largest-all p m j n P r h = rw (← chosen-shift under p m j P) (under-largest p (m * 2 ^ j) n P r h)
-
-pub over-smallest-all : (p m j n : ℕ) → 0 < p → Rep p n → m * 2 ^ j ≤ n → chosen over p m * 2 ^ j ≤ n
-over-smallest-all p m j n P r h = rw (← chosen-shift over p m j P) (over-smallest p (m * 2 ^ j) n P r h)
-
-pub near-closest-all : (p m j n : ℕ) → 0 < p → Rep p n → dist (chosen near p m * 2 ^ j) (m * 2 ^ j) ≤ dist n (m * 2 ^ j)
-near-closest-all p m j n P r = rw (← chosen-shift near p m j P) (near-closest p (m * 2 ^ j) n P r)
-
 -- ---- the answer
 
 pub chosen-pos : (w : Way) (p m : ℕ) → 0 < p → 0 < m → 0 < chosen w p m
