@@ -2,8 +2,9 @@
 use mathlib.Core.Path.{_≡_, refl}
 use mathlib.Core.Bool.{Bool, true, false, cond}
 use Prim.Native.Nat.{ℕ, _+_, _-_, _*_, _/_, _≤_, _<_, min, zero-le}
+use native.Mathlib.Decide.{decLe}
 use native.Mathlib.Omega.{arith}
-use borrow.Author.Tests.{leb-true, leb-false}
+use borrow.Author.Tests.{leb-true, leb-false, le-leb, lt-leb}
 use lib.Dec.{leb}
 use Rattle.numbers.specs.Limits.{limbsFor}
 use Rattle.numbers.specs.Operand.{Operand}
@@ -48,35 +49,20 @@ used-mono t j k x h = go (x .isZero) (leb (64 * j) (t - x .exponent)) (leb (64 *
     go false false true e f = absurd (clash (t - x .exponent) (leb-false _ _ e) (leb-true _ _ f))
     go false false false e f = more (limbsFor (x .precision)) (t - x .exponent)
 
--- of p digits, d reach into the columns read: their limbs
-held : (p L d : ℕ) → p ≤ 64 * L → p - (p - d) ≤ 64 * min L ((d + 63) / 64)
-held p L d h = omega arith
-
-few : (p L d : ℕ) → 64 * L < p + 64 → 64 * min L ((d + 63) / 64) < p - (p - d) + 64
-few p L d h = omega arith
-
-none : (p c d : ℕ) → c ≤ d → p - (p - (c - d)) ≤ 0
-none p c d h = omega arith
-
 -- the limbs used of a regular operand hold every digit that is read
 pub used-hold : (t k : ℕ) (x : Operand) → x .isZero ≡ false → x .precision - unread t k x ≤ 64 * limbsUsed t k x
 unfolding limbsUsed unread
-used-hold t k x r = rw r (go (leb (64 * k) (t - x .exponent)) refl)
-  where
-    go : (b : Bool) → leb (64 * k) (t - x .exponent) ≡ b
-        → x .precision - (x .precision - (64 * k - (t - x .exponent))) ≤ 64 * cond b 0 (min (limbsFor (x .precision)) ((64 * k - (t - x .exponent) + 63) / 64))
-    go true e = none (x .precision) (64 * k) (t - x .exponent) (leb-true _ _ e)
-    go false e = held (x .precision) (limbsFor (x .precision)) (64 * k - (t - x .exponent)) (limbs-hold (x .precision))
+used-hold t k x r =
+    elim (decLe (64 * k) (t - x .exponent)) [
+      | yes h ↦ rw (r, le-leb (64 * k) (t - x .exponent) h) (omega arith)
+      | no h ↦ rw (r, lt-leb (64 * k) (t - x .exponent) (omega arith)) (omega (arith, limbs-hold (x .precision)))
+    ]
 
 -- and no fewer would
 pub used-fewest : (t k : ℕ) (x : Operand) → x .isZero ≡ false → 64 * limbsUsed t k x < x .precision - unread t k x + 64
 unfolding limbsUsed unread
-used-fewest t k x r = rw r (go (leb (64 * k) (t - x .exponent)) refl)
-  where
-    some : (a : ℕ) → 64 * 0 < a + 64
-    some a = omega arith
-
-    go : (b : Bool) → leb (64 * k) (t - x .exponent) ≡ b
-        → 64 * cond b 0 (min (limbsFor (x .precision)) ((64 * k - (t - x .exponent) + 63) / 64)) < x .precision - (x .precision - (64 * k - (t - x .exponent))) + 64
-    go true e = some (x .precision - (x .precision - (64 * k - (t - x .exponent))))
-    go false e = few (x .precision) (limbsFor (x .precision)) (64 * k - (t - x .exponent)) (limbs-fewest (x .precision))
+used-fewest t k x r =
+    elim (decLe (64 * k) (t - x .exponent)) [
+      | yes h ↦ rw (r, le-leb (64 * k) (t - x .exponent) h) (omega arith)
+      | no h ↦ rw (r, lt-leb (64 * k) (t - x .exponent) (omega arith)) (omega (arith, limbs-fewest (x .precision)))
+    ]

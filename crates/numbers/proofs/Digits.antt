@@ -8,7 +8,7 @@ use lib.ListN.{length}
 use lib.Pow.{pow-pos, pow-add, shr-lt, shl-shr, shl-lt}
 use Rattle.limb.specs.Value.{valueIn, valueOf, Below}
 use Rattle.limb.proofs.Value.{value-lt, base-pow}
-use Rattle.numbers.specs.Limits.{mostPrecision, leastExponent, limbsFor}
+use Rattle.numbers.specs.Limits.{limbsFor}
 unfoldable pub use Rattle.numbers.specs.Limbs.{limbsOf}
 use Rattle.numbers.specs.Operand.{Operand, mantissa, lastWeight, spareBits, WellFormed, turned, zeroLike}
 use Rattle.numbers.proofs.Limits.{two-digits, weights-counted, limbs-hold}
@@ -66,12 +66,13 @@ mantissa-ge x g r =
 
 -- ---- what a number of good form is worth: its first digit has the weight 2 ^ (e - 1)
 
-first-weight : (l e p m : ℕ) → 2 ≤ p → p ≤ m → 4 * m < l → l ≤ e → (p - 1 + (e - p) ≡ e - 1) × (p + (e - p) ≡ e)
-first-weight l e p m a b c d = (omega arith, omega arith)
-
 weights : (x : Operand) → WellFormed x → x .isZero ≡ false → (x .precision - 1 + lastWeight x ≡ x .exponent - 1) × (x .precision + lastWeight x ≡ x .exponent)
 unfolding lastWeight
-weights x g r = first-weight leastExponent (x .exponent) (x .precision) mostPrecision (precision-two x g) (g .most) weights-counted (g .regular r .least)
+weights x g r =
+    let two = precision-two x g in
+    let most = g .most in
+    let least = g .regular r .least in
+    (omega (arith, two, most, least, weights-counted), omega (arith, most, least, weights-counted))
 
 pub worth-lt : (x : Operand) → WellFormed x → x .isZero ≡ false → mantissa x * 2 ^ lastWeight x < 2 ^ x .exponent
 worth-lt x g r = subst (λ (n : ℕ). mantissa x * 2 ^ lastWeight x < 2 ^ n) (weights x g r .1) (shl-lt (x .precision) (lastWeight x) (mantissa-lt x g))
