@@ -68,4 +68,7 @@ rust-test: $(archive) $(cases)
 bench: $(archive) $(runs)
 	bench/run
 
+# a recipe that fails leaves nothing that passes for up to date
+.DELETE_ON_ERROR:
+
 .PHONY: all install example check check-install rust-example rust-test bench
