@@ -4,6 +4,8 @@
 #     make install PREFIX=DIR   the archive, the header, the pkg-config file
 #     make check                the C examples: built, run, compared with what is stored
 #     make check-install        the same example over an installation, found by pkg-config
+#     make rust-example         the Rust example: built, run, compared with what is stored
+#     make rust-test            the Rust crate's tests: its documentation's examples, and some 128,000 cases against oracle/
 #     make bench                the measurements against MPFR, with their table and plot (needs MPFR)
 PREFIX ?= /usr/local
 DESTDIR ?=
@@ -15,6 +17,8 @@ archive = target/staticlib/libsheafbuckle.a
 runs = target/staticlib/libbench_run.a
 header = include/sheafbuckle.h
 built = target/c
+cargo = --offline --manifest-path rust/Cargo.toml --target-dir target/rust
+cases = target/face/parts.out
 sources := $(shell find crates -name '*.rt' -o -name '*.antt')
 
 all: $(archive)
@@ -49,7 +53,22 @@ check-install: $(archive)
 	target/stage/enclosure > target/stage/enclosure.out
 	diff examples/c/enclosure.out target/stage/enclosure.out
 
+rust-example: $(archive)
+	cargo build $(cargo) --example enclosure
+	target/rust/debug/examples/enclosure > target/rust/enclosure.out
+	diff rust/examples/enclosure.out target/rust/enclosure.out
+
+# the last of the files that face_cases.py writes
+$(cases): $(wildcard oracle/*.py)
+	python3 oracle/face_cases.py target/face
+
+rust-test: $(archive) $(cases)
+	SHEAFBUCKLE_CASES='$(CURDIR)/target/face' cargo test $(cargo) -- --include-ignored --nocapture
+
 bench: $(archive) $(runs)
 	bench/run
 
-.PHONY: all install example check check-install bench
+# a recipe that fails leaves nothing that passes for up to date
+.DELETE_ON_ERROR:
+
+.PHONY: all install example check check-install rust-example rust-test bench
