@@ -1,4 +1,4 @@
--- The limbs used of an operand: no more than it has, no fewer for more columns, and as many as the digits read take.
+-- The limbs used of an operand: as many as the digits read take, no more than it has, and no fewer for more columns.
 use mathlib.Core.Path.{_≡_, refl}
 use mathlib.Core.Bool.{Bool, true, false, cond}
 use Prim.Native.Nat.{ℕ, _+_, _-_, _*_, _/_, _≤_, _<_, min, zero-le}
@@ -11,6 +11,24 @@ use Rattle.numbers.specs.Operand.{Operand}
 use Rattle.numbers.proofs.Limits.{limbs-hold, limbs-fewest}
 use Rattle.depth.specs.Columns.{limbsUsed}
 use Rattle.depth.specs.Read.{unread}
+
+-- the limbs used of a regular operand hold every digit that is read
+pub used-hold : (t k : ℕ) (x : Operand) → x .isZero ≡ false → x .precision - unread t k x ≤ 64 * limbsUsed t k x
+unfolding limbsUsed unread
+used-hold t k x r =
+    elim (decLe (64 * k) (t - x .exponent)) [
+      | yes h ↦ rw (r, le-leb (64 * k) (t - x .exponent) h) (omega arith)
+      | no h ↦ rw (r, lt-leb (64 * k) (t - x .exponent) (omega arith)) (omega (arith, limbs-hold (x .precision)))
+    ]
+
+-- and no fewer would
+pub used-fewest : (t k : ℕ) (x : Operand) → x .isZero ≡ false → 64 * limbsUsed t k x < x .precision - unread t k x + 64
+unfolding limbsUsed unread
+used-fewest t k x r =
+    elim (decLe (64 * k) (t - x .exponent)) [
+      | yes h ↦ rw (r, le-leb (64 * k) (t - x .exponent) h) (omega arith)
+      | no h ↦ rw (r, lt-leb (64 * k) (t - x .exponent) (omega arith)) (omega (arith, limbs-fewest (x .precision)))
+    ]
 
 least-of : (a b : ℕ) → min a b ≤ a
 least-of a b = omega arith
@@ -48,21 +66,3 @@ used-mono t j k x h = go (x .isZero) (leb (64 * j) (t - x .exponent)) (leb (64 *
     go false true c e f = zero-le
     go false false true e f = absurd (clash (t - x .exponent) (leb-false _ _ e) (leb-true _ _ f))
     go false false false e f = more (limbsFor (x .precision)) (t - x .exponent)
-
--- the limbs used of a regular operand hold every digit that is read
-pub used-hold : (t k : ℕ) (x : Operand) → x .isZero ≡ false → x .precision - unread t k x ≤ 64 * limbsUsed t k x
-unfolding limbsUsed unread
-used-hold t k x r =
-    elim (decLe (64 * k) (t - x .exponent)) [
-      | yes h ↦ rw (r, le-leb (64 * k) (t - x .exponent) h) (omega arith)
-      | no h ↦ rw (r, lt-leb (64 * k) (t - x .exponent) (omega arith)) (omega (arith, limbs-hold (x .precision)))
-    ]
-
--- and no fewer would
-pub used-fewest : (t k : ℕ) (x : Operand) → x .isZero ≡ false → 64 * limbsUsed t k x < x .precision - unread t k x + 64
-unfolding limbsUsed unread
-used-fewest t k x r =
-    elim (decLe (64 * k) (t - x .exponent)) [
-      | yes h ↦ rw (r, le-leb (64 * k) (t - x .exponent) h) (omega arith)
-      | no h ↦ rw (r, lt-leb (64 * k) (t - x .exponent) (omega arith)) (omega (arith, limbs-fewest (x .precision)))
-    ]

@@ -1,4 +1,4 @@
 pub mod Placed
-pub mod Location
 pub mod Rounded
+pub mod Location
 pub mod Walk

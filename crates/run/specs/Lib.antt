@@ -1,3 +1,3 @@
-pub mod LowLimbs
 pub mod Sum
 pub mod Trimmed
+pub mod LowLimbs
