@@ -1,0 +1,59 @@
+use borrow.Author.Needs.{needs}
+use Rattle.text.proofs.all_digits.Statement.{statement}
+use Rattle.text.proofs.all_digits.Tie as tie
+use Rattle.text.proofs.all_digits.Reads as reads
+use Rattle.text.proofs.all_digits.Lts as lts
+use Rattle.text.proofs.digit.Reads as digit-reads
+
+abbrev Inv-loop : tie.InvT-loop
+Inv-loop s i₀ i = ?
+
+abbrev μ-loop : tie.MeasureT-loop
+μ-loop s i₀ i = ?
+
+-- src/lib.rt:34:5
+loop-holds : tie.Need-loop-holds Inv-loop μ-loop
+loop-holds c = search needs
+
+-- src/lib.rt:35:23
+shared-slice-read-digit : tie.Need-shared-slice-read-digit Inv-loop μ-loop
+shared-slice-read-digit c = search needs
+
+-- src/lib.rt:35:17
+digit-requires : tie.Need-digit-requires Inv-loop μ-loop
+digit-requires c κs = search needs
+
+-- src/lib.rt:36:13
+returns : tie.Need-returns Inv-loop μ-loop
+returns c = search needs
+
+-- src/lib.rt:38:9
+add-i : tie.Need-add-i Inv-loop μ-loop
+add-i c = search needs
+
+-- src/lib.rt:34:5
+loop-less : tie.Need-loop-less Inv-loop μ-loop
+loop-less c = search needs
+
+-- src/lib.rt:34:5
+loop-again : tie.Need-loop-again Inv-loop μ-loop
+loop-again c = search needs
+
+-- src/lib.rt:30:1
+returns-2 : tie.Need-returns-2 Inv-loop μ-loop
+returns-2 c = search needs
+
+pub all-digits-spec : {M : Type 1} → statement M
+all-digits-spec =
+    tie.close
+    (tie.spec
+    Inv-loop
+    μ-loop
+    loop-holds
+    shared-slice-read-digit
+    digit-requires
+    returns
+    add-i
+    loop-less
+    loop-again
+    returns-2)
