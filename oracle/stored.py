@@ -10,13 +10,14 @@ import os
 import sys
 from itertools import chain
 
-from vectors import comparisons, doubles, gate, marked, pair_of
+from vectors import comparisons, doubles, gate, lines, marked, pair_of
 
 CRATES = os.path.join(os.path.dirname(os.path.dirname(os.path.abspath(__file__))), "crates")
 
 # what each program is run on; the output of a program must stay below 1 MiB
 PROGRAMS = {
     "tests_doubles": doubles,
+    "tests_lines": lines,
     "tests_order": comparisons,
     "tests_sums": lambda: chain(marked(), gate()),
 }

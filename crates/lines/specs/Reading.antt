@@ -32,10 +32,15 @@ unfoldable pub signedOf : ℕ → ℤ
 signedOf w = cond (ltb w (2 ^ 31)) (pos w) (subℕ w (2 ^ 32))
 
 -- "00 positive, 01 negative, 02 +0, 03 −0"
+unfoldable pub negativeOf : ℕ → Bool
+negativeOf k = eqb k 1 || eqb k 3
+
+unfoldable pub kindOf : ℕ → Kind
+kindOf k = cond (ltb k 2) Regular Zero
+
 unfoldable pub numberIn : List ℕ → Number
 numberIn line =
-    let k = kindIn line in
-    record { negative = eqb k 1 || eqb k 3; kind = cond (ltb k 2) Regular Zero; precision = field 2 4 line; exponent = signedOf (field 6 8 line) }
+    record { negative = negativeOf (kindIn line); kind = kindOf (kindIn line); precision = field 2 4 line; exponent = signedOf (field 6 8 line) }
 
 -- n limbs from digit 14 on, top first: lowest first, the first is the last of them
 unfoldable pub limbsIn : ℕ → List ℕ → List ℕ

@@ -13,7 +13,7 @@ ghost use Rattle.numbers.specs.Limits.{limbsFor};
 ghost use Rattle.checks.specs.Number.{operandOf, nothing};
 ghost use Rattle.checks.specs.Check.{formHolds};
 ghost use Rattle.lines.specs.Line.{shortestLine};
-ghost use Rattle.lines.specs.Reading.{field, kindIn, signedOf, numberIn, limbsIn, digitsHold, headOf, readOf, targetAfter};
+ghost use Rattle.lines.specs.Reading.{field, signedOf, kindOf, numberIn, limbsIn, digitsHold, headOf, readOf, targetAfter};
 
 fn refused(rule: u8, place: u8) -> Head
     ensures { λ r. ⌜ r ≡ record { number = nothing; refusal = record { rule = rule; place = place } } ⌝ }
@@ -64,7 +64,7 @@ fn signed(word: u64) -> i32
 
 // Kinds 0 and 1 are regular numbers.
 fn kind_of(k: u64) -> Kind
-    ensures { λ r. ⌜ r ≡ cond (ltb k 2) Kind.Regular Kind.Zero ⌝ }
+    ensures { λ r. ⌜ r ≡ kindOf k ⌝ }
 {
     if k < 2 {
         return Kind::Regular;

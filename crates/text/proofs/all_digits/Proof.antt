@@ -1,3 +1,12 @@
+-- `text::all_digits`: what is left decides, as long as digits were passed. Assumes nothing.
+use mathlib.Core.Path.{_≡_, refl, sym, _∙_}
+use Prim.Native.Nat.{_≤_, _-_}
+use native.Mathlib.Numerals.{add-one}
+use native.Mathlib.Omega.{arith}
+use lib.ListN.{length, drop}
+use lib.Seq.{drop-cons, drop-length}
+use Rattle.text.specs.Digits.{allDigits}
+use Rattle.text.proofs.Digits.{passed, stopped, ended}
 use borrow.Author.Needs.{needs}
 use Rattle.text.proofs.all_digits.Statement.{statement}
 use Rattle.text.proofs.all_digits.Tie as tie
@@ -6,10 +15,10 @@ use Rattle.text.proofs.all_digits.Lts as lts
 use Rattle.text.proofs.digit.Reads as digit-reads
 
 abbrev Inv-loop : tie.InvT-loop
-Inv-loop s i₀ i = ?
+Inv-loop s i₀ i = (i ≤ length s) × (allDigits (drop i s) ≡ allDigits s)
 
 abbrev μ-loop : tie.MeasureT-loop
-μ-loop s i₀ i = ?
+μ-loop s i₀ i = length s - i
 
 -- src/lib.rt:34:5
 loop-holds : tie.Need-loop-holds Inv-loop μ-loop
@@ -25,7 +34,7 @@ digit-requires c κs = search needs
 
 -- src/lib.rt:36:13
 returns : tie.Need-returns Inv-loop μ-loop
-returns c = search needs
+returns c = stopped (c .before .before .before .before .before .before .args .s .now) (c .before .before .before .before .loop .i) (omega arith) (omega arith) (c .before .before .before .before .loop .inv .1)
 
 -- src/lib.rt:38:9
 add-i : tie.Need-add-i Inv-loop μ-loop
@@ -37,11 +46,11 @@ loop-less c = search needs
 
 -- src/lib.rt:34:5
 loop-again : tie.Need-loop-again Inv-loop μ-loop
-loop-again c = search needs
+loop-again c = (search needs, passed (c .before .before .before .before .before .before .args .s .now) (c .before .before .before .before .loop .i) (omega arith) (omega arith) (c .before .before .before .before .loop .inv .1))
 
 -- src/lib.rt:30:1
 returns-2 : tie.Need-returns-2 Inv-loop μ-loop
-returns-2 c = search needs
+returns-2 c = ended (c .before .before .before .args .s .now) (c .before .loop .i) (omega arith) (c .before .loop .inv .1)
 
 pub all-digits-spec : {M : Type 1} → statement M
 all-digits-spec =

@@ -1,3 +1,6 @@
+-- `text::glyph`: below ten a decimal digit, else a letter. Assumes nothing.
+use native.Mathlib.Omega.{arith}
+use Rattle.text.proofs.Digits.{glyph-decimal, glyph-letter}
 use borrow.Author.Needs.{needs}
 use Rattle.text.proofs.glyph.Statement.{statement}
 use Rattle.text.proofs.glyph.Tie as tie
@@ -14,7 +17,7 @@ cast-result c = search needs
 
 -- src/lib.rt:24:9
 returns : tie.Need-returns
-returns c = search needs
+returns c = omega (arith, glyph-decimal _ (c .if1 .taken))
 
 -- src/lib.rt:26:6
 add-result-2 : tie.Need-add-result-2
@@ -26,7 +29,7 @@ cast-result-2 c = search needs
 
 -- src/lib.rt:19:1
 returns-2 : tie.Need-returns-2
-returns-2 c = search needs
+returns-2 c = omega (arith, glyph-letter _ (c .if1 .left))
 
 pub glyph-spec : {M : Type 1} → statement M
 glyph-spec =

@@ -1,0 +1,208 @@
+// Runs the stored lines on standard input, one case a line, and prints one answer a line.
+use checks::Number;
+use checks::Refusal;
+use lines::Head;
+use lines::Written;
+ghost use Prim.Native.Nat.{_≤_};
+ghost use mathlib.Core.Path.{_≡_};
+ghost use lib.ListN.{length};
+
+fn put_refusal(out: &mut [u8; 4096], refusal: Refusal) -> usize
+    ensures { λ r. ⌜ r ≤ 4096 ⌝ }
+{
+    let a = vectors::put_byte(out, 0, refusal.rule as u64);
+    vectors::put_byte(out, a, refusal.place as u64)
+}
+
+fn put_bytes(out: &mut [u8; 4096], at: usize, bytes: &[u8]) -> usize
+    requires { ⌜ at ≤ 4096 ⌝ }
+    ensures { λ r. ⌜ r ≤ 4096 ⌝ }
+{
+    let mut place = at;
+    let mut i: usize = 0;
+    while i < bytes.len() {
+        place = vectors::put_byte(out, place, bytes[i] as u64);
+        i += 1;
+    }
+    place
+}
+
+fn written(w: Written, room: &[u8], out: &mut [u8; 4096]) -> usize
+    ensures { λ r. ⌜ r ≤ 4096 ⌝ }
+{
+    let a = put_refusal(out, w.refusal);
+    let b = vectors::put_pair(out, a, w.count as u64);
+    let c = put_bytes(out, b, room);
+    vectors::put_end(out, c)
+}
+
+fn read(h: Head, target: &[u64], out: &mut [u8; 4096]) -> usize
+    ensures { λ r. ⌜ r ≤ 4096 ⌝ }
+{
+    let a = put_refusal(out, h.refusal);
+    let b = vectors::put_number(out, a, h.number);
+    let c = vectors::put_limbs(out, b, target);
+    vectors::put_end(out, c)
+}
+
+// The heads of a line must be the same, whichever function reads it; where they differ, the answer is empty.
+fn same_head(line: &[u8], h: Head) -> bool {
+    let head = lines::read_head(line);
+    if head.refusal.rule == h.refusal.rule {
+        return true;
+    }
+    (head.refusal.rule == 0) & ((h.refusal.rule == 3) | (h.refusal.rule == 5))
+}
+
+fn run_write(x: Number, limbs: &[u64], room: &mut [u8], out: &mut [u8; 4096]) -> usize
+    ensures { λ r. ⌜ r ≤ 4096 ⌝ }
+{
+    let w = lines::write_line(x, limbs, room);
+    written(w, room, out)
+}
+
+fn run_read(line: &[u8], target: &mut [u64], out: &mut [u8; 4096]) -> usize
+    ensures { λ r. ⌜ r ≤ 4096 ⌝ }
+{
+    let h = lines::read_line(line, target);
+    if !same_head(line, h) {
+        return 0;
+    }
+    read(h, target, out)
+}
+
+// Bytes that are lent: the first k, or all where there are not so many.
+fn at_most(k: u64, n: usize) -> usize
+    ensures { λ r. ⌜ r ≤ n ⌝ }
+{
+    if k < n as u64 {
+        return k as usize;
+    }
+    n
+}
+
+fn write_part(
+    x: Number,
+    xl: &[u64; 80],
+    n: usize,
+    room: &mut [u8],
+    k: u64,
+    out: &mut [u8; 4096],
+) -> usize
+    requires { ⌜ n ≤ 80 ⌝ }
+    ensures { λ r. ⌜ r ≤ 4096 ⌝ }
+{
+    let xs = &xl[..];
+    let end = at_most(k, room.len());
+    run_write(x, &xs[0..n], &mut room[0..end], out)
+}
+
+fn read_part(line: &[u8], target: &mut [u64], k: u64, out: &mut [u8; 4096]) -> usize
+    ensures { λ r. ⌜ r ≤ 4096 ⌝ }
+{
+    let end = at_most(k, target.len());
+    run_read(line, &mut target[0..end], out)
+}
+
+// 2,048 bytes, all the same. The `ensures` gives the length, which lending them as a slice needs.
+fn filled(byte: u64) -> [u8; 2048]
+    ensures { λ r. ⌜ 2048 ≡ length r ⌝ }
+{
+    let b = (byte % 256) as u8;
+    [b; 2048]
+}
+
+// The bytes of a line that is asked about, two digits each; how many.
+fn bytes_at(line: &[u8], at: usize, n: u64, out: &mut [u8; 2048]) -> usize
+    ensures { λ r. ⌜ r ≤ 2048 ⌝ }
+{
+    let end = at_most(n, 2048);
+    let mut place = at;
+    let mut i: usize = 0;
+    while i < end {
+        out[i] = vectors::byte_at(line, place) as u8;
+        place = vectors::place_after(place, 2);
+        i += 1;
+    }
+    end
+}
+
+// Operation 0: room in bytes (4), fill (2), a number.
+fn write_case(line: &[u8], out: &mut [u8; 4096]) -> usize
+    ensures { λ r. ⌜ r ≤ 4096 ⌝ }
+{
+    let mut xl = [0u64; 80];
+    let mut room = filled(vectors::byte_at(line, 6));
+    let x = vectors::number_at(line, 8);
+    let n = vectors::limbs_at(line, 36, &mut xl);
+    write_part(x, &xl, n, &mut room, vectors::pair_at(line, 2), out)
+}
+
+// Operation 1: target limb count (4), fill (2), length (4) and bytes of the line.
+fn read_case(line: &[u8], out: &mut [u8; 4096]) -> usize
+    ensures { λ r. ⌜ r ≤ 4096 ⌝ }
+{
+    let mut stored = [0u8; 2048];
+    let mut target = vectors::filled(vectors::byte_at(line, 6));
+    let n = bytes_at(line, 12, vectors::pair_at(line, 8), &mut stored);
+    let bytes = &stored[..];
+    read_part(&bytes[0..n], &mut target, vectors::pair_at(line, 2), out)
+}
+
+fn run_case(line: &[u8], out: &mut [u8; 4096]) -> usize
+    ensures { λ r. ⌜ r ≤ 4096 ⌝ }
+{
+    if vectors::byte_at(line, 0) == 0 {
+        return write_case(line, out);
+    }
+    read_case(line, out)
+}
+
+fn print_case(line: &[u8; 4096], held: usize, out: &mut [u8; 4096])
+    requires { ⌜ held ≤ 4096 ⌝ }
+{
+    let whole = &line[..];
+    let n = run_case(&whole[0..held], out);
+    let told = &out[..];
+    io::write_all(1, &told[0..n]);
+}
+
+// Every line that ends in the chunk; the state after it.
+fn run_chunk(
+    start: vectors::Cutter,
+    chunk: &[u8],
+    line: &mut [u8; 4096],
+    out: &mut [u8; 4096],
+) -> vectors::Cutter {
+    let mut c = vectors::cut(start, chunk, line);
+    let mut turns: u64 = 18446744073709551615;
+    while 0 < turns {
+        turns -= 1;
+        if !c.whole {
+            return c;
+        }
+        print_case(line, c.held, out);
+        c = vectors::cut(c, chunk, line);
+    }
+    c
+}
+
+fn run_all(buf: &mut [u8], line: &mut [u8; 4096], out: &mut [u8; 4096]) {
+    let mut c = vectors::start();
+    let mut turns: u64 = 18446744073709551615;
+    while 0 < turns {
+        let got = io::read_full(0, buf);
+        if got == 0 {
+            return;
+        }
+        c = run_chunk(c, &buf[0..got], line, out);
+        turns -= 1;
+    }
+}
+
+fn main() {
+    let mut buf = io::large_buffer();
+    let mut line = io::buffer();
+    let mut out = io::buffer();
+    run_all(&mut buf, &mut line, &mut out);
+}
