@@ -1,0 +1,9 @@
+// A group of three lines, two numbers and what is asked of them, and what is printed for it.
+mod telling; // telling.rt: the lines that are printed
+mod number; // number.rt: a number's line
+mod order; // order.rt: the desk line
+mod answer; // answer.rt: the group's answer
+
+pub use answer::answer;
+pub use telling::refuse;
+pub use telling::LONGEST_ANSWER;
