@@ -80,10 +80,17 @@ abbrev pub SumOf : List ℕ → List ℕ → List ℕ → List ℕ → Sum → T
 SumOf first second third limbs s =
     Reported (operationOf (orderOf third .subtracts)) (modeOf (orderOf third .mode)) (orderOf third .precision) (operandOfLine first) (operandOfLine second) limbs s
 
+-- its lines are printed
+pub record SumTold (first second third told : List ℕ) : Type 0 where
+  pub sum : Sum
+  pub limbs : List ℕ
+  pub summed : SumOf first second third limbs sum
+  pub told-is : told ≡ sumLines sum limbs
+
 -- what is printed: the refusal of the lines or of the sum's operands, or the sum
 pub record Answered (first second third told : List ℕ) : Type 0 where
   pub refused : (groupRefusal first second third ≡ accepted → ⊥) → told ≡ refusalLine (groupRefusal first second third)
-  pub summed : groupRefusal first second third ≡ accepted → (limbs : List ℕ) (s : Sum) → SumOf first second third limbs s → told ≡ sumLines s limbs
+  pub summed : groupRefusal first second third ≡ accepted → SumTold first second third told
 
 -- "limbs of second (a byte each) as a line": ternary 2, depth 4, limbs 2 and 2, LF
 unfoldable pub longestAnswer : ℕ

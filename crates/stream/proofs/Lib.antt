@@ -1,3 +1,5 @@
 pub mod Keeping
 pub mod Taking
 pub mod Underway
+pub mod Resuming
+pub mod Printing

@@ -16,22 +16,22 @@ use Rattle.stream.specs.Group.{Group, isWhole, withByte, after, taken, g
 use Rattle.stream.proofs.Keeping.{grown-twice, held-is}
 
 -- a whole group takes nothing
-after-whole : (g : Group) (bs : List ℕ) → isWhole g ≡ true → after g bs ≡ g
+pub after-whole : (g : Group) (bs : List ℕ) → isWhole g ≡ true → after g bs ≡ g
 unfolding after
 after-whole g [] e = refl
 after-whole g (b ∷ bs) e = rw e
 
-taken-whole : (g : Group) (bs : List ℕ) → isWhole g ≡ true → taken g bs ≡ 0
+pub taken-whole : (g : Group) (bs : List ℕ) → isWhole g ≡ true → taken g bs ≡ 0
 unfolding taken
 taken-whole g [] e = refl
 taken-whole g (b ∷ bs) e = rw e
 
 -- one that is not takes the next byte
-after-byte : (g : Group) (b : ℕ) (bs : List ℕ) → isWhole g ≡ false → after g (b ∷ bs) ≡ after (withByte g b) bs
+pub after-byte : (g : Group) (b : ℕ) (bs : List ℕ) → isWhole g ≡ false → after g (b ∷ bs) ≡ after (withByte g b) bs
 unfolding after
 after-byte g b bs e = rw e
 
-taken-byte : (g : Group) (b : ℕ) (bs : List ℕ) → isWhole g ≡ false → taken g (b ∷ bs) ≡ suc (taken (withByte g b) bs)
+pub taken-byte : (g : Group) (b : ℕ) (bs : List ℕ) → isWhole g ≡ false → taken g (b ∷ bs) ≡ suc (taken (withByte g b) bs)
 unfolding taken
 taken-byte g b bs e = rw e
 
