@@ -1,6 +1,6 @@
 -- What is printed for a group of three lines. Definitions only.
 -- Document 01, "The desk program".
-use Prim.Native.Nat.{ℕ, suc, _+_, _*_}
+use Prim.Native.Nat.{ℕ, zero, suc, _+_}
 use mathlib.Core.Path.{_≡_}
 use mathlib.Core.Bool.{Bool, cond}
 use mathlib.Core.List.{List, [], _∷_, _++_}
@@ -27,7 +27,8 @@ refusalLine r = numeral 2 238 ++ numeral 2 (r .rule) ++ numeral 2 (r .place) ++ 
 
 -- "ternary (00, 01, ff)"
 unfoldable pub ternaryByte : ℤ → ℕ
-ternaryByte (pos n) = n
+ternaryByte (pos zero) = 0
+ternaryByte (pos (suc n)) = 1
 ternaryByte (negsuc n) = 255
 
 -- "ternary .., depth (two bytes), limbs of first, limbs of second (a byte each) as a line of its own"
@@ -92,6 +93,10 @@ pub record Answered (first second third told : List ℕ) : Type 0 where
   pub refused : (groupRefusal first second third ≡ accepted → ⊥) → told ≡ refusalLine (groupRefusal first second third)
   pub summed : groupRefusal first second third ≡ accepted → SumTold first second third told
 
--- "limbs of second (a byte each) as a line": ternary 2, depth 4, limbs 2 and 2, LF
+-- ternary value 2, depth 4, limbs 2 and 2, LF
+unfoldable pub reportSize : ℕ
+reportSize = 2 + 4 + 2 + 2 + 1
+
+-- no answer is longer
 unfoldable pub longestAnswer : ℕ
-longestAnswer = longestLine + (2 + 4 + 2 + 2 + 1)
+longestAnswer = longestLine + reportSize

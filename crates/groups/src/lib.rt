@@ -2,8 +2,9 @@
 mod telling; // telling.rt: the lines that are printed
 mod number; // number.rt: a number's line
 mod order; // order.rt: the desk line
-mod answer; // answer.rt: the group's answer
+mod answering; // answering.rt: the group's answer
 
-pub use answer::answer;
+pub use answering::answer;
+pub use telling::longest_answer;
 pub use telling::refuse;
 pub use telling::LONGEST_ANSWER;

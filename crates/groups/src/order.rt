@@ -2,7 +2,7 @@
 use checks::Refusal;
 ghost use mathlib.Core.Path.{_≡_};
 ghost use Prim.Native.Nat.{_+_, _≤_, _<_, _^_};
-ghost use mathlib.Core.Bool.{true};
+ghost use mathlib.Core.Bool.{true, false};
 ghost use lib.ListN.{length};
 ghost use Rattle.lines.specs.Reading.{field, digitsHold};
 ghost use Rattle.groups.specs.Order.{orderSize, orderRefusal, orderOf};
@@ -19,6 +19,7 @@ pub struct Order {
 const ORDER_SIZE: usize = 9;
 
 fn refused(rule: u8) -> Order
+    ensures { λ r. ⌜ r ≡ record { subtracts = false; precision = 0; mode = 0; refusal = record { rule = rule; place = 3 } } ⌝ }
 {
     Order {
         subtracts: false,

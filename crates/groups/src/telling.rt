@@ -7,22 +7,27 @@ ghost use mathlib.Core.List.{_∷_, []};
 ghost use lib.ListN.{length};
 ghost use Rattle.text.specs.Digits.{numeral};
 ghost use Rattle.lines.specs.Line.{lineFeed};
-ghost use Rattle.groups.specs.Answer.{refusalLine, ternaryByte, reportLine, sumLines, longestAnswer};
-ghost use Rattle.groups.specs.Written.{Tells, Appends};
+ghost use Rattle.groups.specs.Answer.{refusalLine, ternaryByte, reportLine, sumLines, reportSize, longestAnswer};
+ghost use Rattle.numbers.specs.Operand.{WellFormed};
+ghost use Rattle.checks.specs.Number.{operandOf};
+ghost use Rattle.groups.specs.Written.{Tells, Appends, Refuses};
 
 // Ternary value, depth and limbs used, in hexadecimal, with LF.
 const REPORT: usize = 11;
 
-// ee, number and place, with LF.
-const REFUSAL: usize = 7;
-
 // No answer is longer.
 pub const LONGEST_ANSWER: usize = lines::LONGEST_LINE + REPORT;
+
+pub fn longest_answer() -> usize
+    ensures { λ r. ⌜ r ≡ longestAnswer ⌝ }
+{
+    LONGEST_ANSWER
+}
 
 // The last n digits of a value.
 fn put(out: &mut [u8], at: usize, n: usize, value: u64) -> usize
     requires { ⌜ at + n ≤ length (now out) ⌝ }
-    ensures { λ r. ⌜ Appends (numeral n value) at (now (out .entry)) (now (out .exit)) r ⌝ }
+    ensures { λ r. ⌜ Appends (numeral n value) n at (now (out .entry)) (now (out .exit)) r ⌝ }
 {
     let end = at + n;
     text::write_digits(&mut out[at..end], value);
@@ -32,7 +37,7 @@ fn put(out: &mut [u8], at: usize, n: usize, value: u64) -> usize
 // LF.
 fn put_end(out: &mut [u8], at: usize) -> usize
     requires { ⌜ at < length (now out) ⌝ }
-    ensures { λ r. ⌜ Appends (lineFeed ∷ []) at (now (out .entry)) (now (out .exit)) r ⌝ }
+    ensures { λ r. ⌜ Appends (lineFeed ∷ []) 1 at (now (out .entry)) (now (out .exit)) r ⌝ }
 {
     out[at] = 10;
     at + 1
@@ -56,13 +61,16 @@ fn ternary_byte(t: i8) -> u64
     if t < 0 {
         return 255;
     }
-    t as u64
+    if 0 < t {
+        return 1;
+    }
+    0
 }
 
 // The line below a result.
 fn put_report(s: Sum, out: &mut [u8], at: usize) -> usize
-    requires { ⌜ at + 11 ≤ length (now out) ⌝ }
-    ensures { λ r. ⌜ Appends (reportLine s) at (now (out .entry)) (now (out .exit)) r ⌝ }
+    requires { ⌜ at + reportSize ≤ length (now out) ⌝ }
+    ensures { λ r. ⌜ Appends (reportLine s) reportSize at (now (out .entry)) (now (out .exit)) r ⌝ }
 {
     let a = put(out, at, 2, ternary_byte(s.ternary));
     let b = put(out, a, 4, s.depth);
@@ -73,6 +81,8 @@ fn put_report(s: Sum, out: &mut [u8], at: usize) -> usize
 
 // A result with its report, or its refusal.
 pub(crate) fn put_sum(s: Sum, limbs: &[u64], out: &mut [u8]) -> usize
+    requires { ⌜ (longestAnswer ≤ length (now out)) × (s .refusal .rule ≡ 0 → WellFormed (operandOf (s .number) (now limbs))) ⌝ }
+    ensures { λ r. ⌜ Tells (sumLines s (now (limbs .entry))) (now (out .entry)) (now (out .exit)) r ⌝ }
 {
     let refusal = s.refusal;
     if refusal.rule != 0 {
@@ -85,8 +95,9 @@ pub(crate) fn put_sum(s: Sum, limbs: &[u64], out: &mut [u8]) -> usize
 
 // A refusal's line alone; nothing where the room is too short.
 pub fn refuse(refusal: Refusal, out: &mut [u8]) -> usize
+    ensures { λ r. ⌜ Refuses refusal (now (out .entry)) (now (out .exit)) r ⌝ }
 {
-    if out.len() < LONGEST_ANSWER {
+    if out.len() < longest_answer() {
         return 0;
     }
     put_refusal(refusal, out)

@@ -5,13 +5,21 @@ use crate::number::limb_count;
 use crate::number::read_number;
 use crate::order::Order;
 use crate::order::read_order;
-use crate::telling::LONGEST_ANSWER;
+use crate::telling::longest_answer;
 use crate::telling::put_refusal;
 use crate::telling::put_sum;
 use sums::Sum;
+ghost use mathlib.Core.Path.{_≡_};
+ghost use Prim.Native.Nat.{_≤_};
+ghost use lib.ListN.{length};
+ghost use Rattle.sums.specs.Summed.{Summed};
+ghost use Rattle.groups.specs.Order.{orderOf, operationOf};
+ghost use Rattle.groups.specs.Answer.{longestAnswer};
+ghost use Rattle.groups.specs.Written.{mostLimbs, AnswerTold, Answers};
 
 // The sum or the difference.
 fn sum(order: Order, x: Number, xl: &[u64], y: Number, yl: &[u64], target: &mut [u64]) -> Sum
+    ensures { λ r. ⌜ Summed (operationOf (order .subtracts)) (order .mode) x (now (xl .entry)) y (now (yl .entry)) (order .precision) (now (target .entry)) (now (target .exit)) r ⌝ }
 {
     let mode = order.mode;
     let p = order.precision;
@@ -56,7 +64,7 @@ fn answer_lines(first: &[u8], second: &[u8], third: &[u8], xl: &mut [u64], yl: &
 // Prints a group's answer at the start of the room; nothing where the room is too short for any.
 pub fn answer(first: &[u8], second: &[u8], third: &[u8], out: &mut [u8]) -> usize
 {
-    if out.len() < LONGEST_ANSWER {
+    if out.len() < longest_answer() {
         return 0;
     }
     let mut xl = [0u64; MOST_LIMBS];
