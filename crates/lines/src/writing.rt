@@ -46,15 +46,17 @@ fn write_limbs(limbs: &[u64], part: &mut [u8])
 }
 
 // The line of a number of good form, into room that is long enough.
-fn write_whole(x: Number, limbs: &[u64], room: &mut [u8], size: usize)
-    requires { ⌜ size ≤ length (now room) ⌝ }
+fn write_whole(x: Number, limbs: &[u64], room: &mut [u8])
+    requires { ⌜ length (lineOf x (now limbs)) ≤ length (now room) ⌝ }
     ensures { λ r. ⌜ now (room .exit) ≡ onto (lineOf x (now (limbs .entry))) (now (room .entry)) ⌝ }
 {
     write_head(x, room);
-    let last = size - 1;
-    if !checks::is_zero(x) {
-        write_limbs(limbs, &mut room[14..last]);
+    if checks::is_zero(x) {
+        room[14] = 10;
+        return;
     }
+    let last = 14 + 16 * limbs.len();
+    write_limbs(limbs, &mut room[14..last]);
     room[last] = 10;
 }
 
@@ -74,7 +76,7 @@ pub fn write_line(x: Number, limbs: &[u64], room: &mut [u8]) -> Written
             refusal: Refusal { rule: 3, place: 3 },
         };
     }
-    write_whole(x, limbs, room, size);
+    write_whole(x, limbs, room);
     Written {
         count: size,
         refusal,

@@ -1,0 +1,6 @@
+pub mod Fields
+pub mod Tests
+pub mod Room
+pub mod Size
+pub mod Answered
+pub mod Accepted
