@@ -1,1 +1,4 @@
 pub mod Tellings
+pub mod Numbers
+pub mod Orders
+pub mod Formed

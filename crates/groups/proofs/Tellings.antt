@@ -2,9 +2,9 @@
 use mathlib.Core.Path.{_≡_, refl, sym, ap, _∙_}
 use mathlib.Core.Bool.{Bool, true, false, cond}
 use mathlib.Core.List.{List, [], _∷_, _++_, append-assoc}
-use Prim.Native.Nat.{ℕ, zero, suc, _+_, _-_, _≤_, _<_}
+use Prim.Native.Nat.{ℕ, zero, suc, _+_, _-_, _*_, _≤_, _<_}
 use native.Mathlib.Omega.{arith}
-use borrow.Author.Tests.{eq-eqb, ne-eqb}
+use borrow.Author.Tests.{eq-eqb, ne-eqb, ltb-true, ltb-false}
 use lib.IntN.{ℤ, pos, negsuc}
 use lib.Signed.{ltZ}
 use lib.ListN.{length, take, drop, set, length-append, length-drop}
@@ -12,9 +12,10 @@ use lib.Seq.{take-at}
 use borrow.Rule.Slice.PartMut.{putMid}
 use Rattle.numbers.specs.Limits.{mostPrecision, limbsFor}
 use Rattle.numbers.specs.Operand.{WellFormed}
+use Rattle.numbers.proofs.Limits.{limbs-hold, limbs-fewest}
 use Rattle.checks.specs.declared.Number.{Number}
 use Rattle.checks.specs.declared.Refusal.{Refusal}
-use Rattle.checks.specs.Number.{operandOf}
+use Rattle.checks.specs.Number.{isZeroKind, operandOf}
 use Rattle.checks.specs.Check.{accepted, aloneRefusal}
 use Rattle.checks.proofs.Accepted.{alone-accepted}
 use Rattle.text.specs.Digits.{numeral}
@@ -22,6 +23,8 @@ use Rattle.text.proofs.Numeral.{length-numeral}
 use Rattle.lines.specs.declared.Written.{Written}
 use Rattle.lines.specs.Line.{lineFeed, lineOf, lineSize, longestLine, shortestLine}
 use Rattle.lines.specs.Writing.{onto, writeRefusal, writtenOf, roomAfter}
+use Rattle.lines.proofs.Size.{size-is}
+use Rattle.lines.proofs.Answered.{write-accepted}
 use Rattle.lines.proofs.Room.{onto-nothing, put-numeral, set-onto}
 use Rattle.sums.specs.declared.report.Sum.{Sum}
 use Rattle.groups.specs.Answer.{refusalLine, ternaryByte, reportLine, sumLines, reportSize, longestAnswer}
@@ -81,10 +84,14 @@ module _ (s : Sum) (at v : ℕ) (o a b c d e : List ℕ) (i j k l n : ℕ) where
       let m = u .1 ((((told ++ numeral 2 v) ++ numeral 4 (s .depth)) ++ numeral 2 (s .first)) ++ numeral 2 (s .second)) room (simp (length-append, length-numeral) (omega (arith, p .0, q .0, r .0, t .0))) z in
       m ∙ ap (λ (x : List ℕ). onto x room) (simp (append-assoc, g)))
 
+report-length : (s : Sum) → length (reportLine s) ≡ reportSize
+unfolding reportLine reportSize
+report-length s = simp (length-append, length-numeral)
+
 -- -1, 0, 1
 pub below-zero : (t : ℤ) → ltZ t (pos 0) ≡ true → 255 ≡ ternaryByte t
 unfolding ternaryByte
-below-zero (pos n) e = let z : _≡_ {A = ℕ} 0 1 = cc in absurd (omega arith)
+below-zero (pos n) e = absurd (omega (arith, ltb-true n 0 e))
 below-zero (negsuc n) e = refl
 
 pub above-zero : (t : ℤ) → ltZ (pos 0) t ≡ true → 1 ≡ ternaryByte t
@@ -93,23 +100,54 @@ above-zero (pos zero) e = let z : _≡_ {A = ℕ} 0 1 = cc in absurd (omega arit
 above-zero (pos (suc n)) e = refl
 above-zero (negsuc n) e = let z : _≡_ {A = ℕ} 0 1 = cc in absurd (omega arith)
 
+pub just-zero : (t : ℤ) → ltZ t (pos 0) ≡ false → ltZ (pos 0) t ≡ false → 0 ≡ ternaryByte t
+unfolding ternaryByte
+just-zero (pos zero) e f = refl
+just-zero (pos (suc n)) e f = absurd (omega (arith, ltb-false 0 (suc n) f))
+just-zero (negsuc n) e f = let z : _≡_ {A = ℕ} 0 1 = cc in absurd (omega arith)
+
 -- a sum that is refused
 pub refused-told : (s : Sum) (limbs o e : List ℕ) (n : ℕ) → (s .refusal .rule ≡ 0 → ⊥) → Tells (refusalLine (s .refusal)) o e n → Tells (sumLines s limbs) o e n
 unfolding sumLines
 refused-told s limbs o e n h t = simp (ne-eqb (s .refusal .rule) 0 h) t
 
+pub limbs-few : (p : ℕ) → p ≤ mostPrecision → limbsFor p ≤ limbsFor mostPrecision
+limbs-few p h = omega (arith, limbs-fewest p, limbs-hold mostPrecision)
+
+size-fits : (b : Bool) (n m : ℕ) → n ≤ m → cond b shortestLine (shortestLine + 16 * n) ≤ shortestLine + 16 * m
+size-fits true n m h = omega arith
+size-fits false n m h = omega arith
+
 -- a number of good form is written, and the report comes behind it
 module _ (s : Sum) (limbs o : List ℕ) (formed : WellFormed (operandOf (s .number) limbs)) (room : longestAnswer ≤ length o) where
   line-fits : length (lineOf (s .number) limbs) ≤ longestLine
-  line-fits = ?
+  unfolding longestLine lineSize operandOf
+  line-fits = rw (size-is (s .number) limbs (formed .count)) (size-fits (isZeroKind (s .number .kind)) _ _ (limbs-few (s .number .precision) (formed .most)))
+
+  alone : aloneRefusal (operandOf (s .number) limbs) .rule ≡ 0
+  unfolding accepted
+  alone = ap (λ (r : Refusal). r .rule) (alone-accepted (operandOf (s .number) limbs) formed)
 
   is-written : writeRefusal (s .number) limbs (length o) ≡ accepted
-  is-written = ?
+  unfolding longestAnswer
+  is-written = write-accepted (s .number) limbs (length o) alone (omega (arith, line-fits))
+
+  count-is-size : (w : Written) → w ≡ writtenOf (s .number) limbs (length o) → w .count ≡ length (lineOf (s .number) limbs)
+  unfolding writtenOf accepted
+  count-is-size w e = ap (λ (x : Written). x .count) e ∙ simp is-written
 
   pub count-fits : (w : Written) → w ≡ writtenOf (s .number) limbs (length o) → w .count + reportSize ≤ length o
-  count-fits w e = ?
+  unfolding longestAnswer
+  count-fits w e = omega (arith, line-fits, count-is-size w e)
 
   pub sum-told : (w : Written) (a b : List ℕ) (n : ℕ) → s .refusal .rule ≡ 0 → w ≡ writtenOf (s .number) limbs (length o) → a ≡ roomAfter (s .number) limbs o → Appends (reportLine s) reportSize (w .count) a b n
       → Tells (sumLines s limbs) o b n
-  unfolding sumLines writtenOf roomAfter
-  sum-told w a b n z e f p = ?
+  unfolding sumLines roomAfter accepted
+  sum-told w a b n z e f p =
+      let c : w .count ≡ length (lineOf (s .number) limbs) = count-is-size w e in
+      let g : a ≡ onto (lineOf (s .number) limbs) o = f ∙ simp is-written in
+      simp (eq-eqb (s .refusal .rule) 0 z)
+      (record {
+        count-is = p .0 ∙ simp (length-append, report-length s, c);
+        exit-is = p .1 (lineOf (s .number) limbs) o (sym c) g;
+      })

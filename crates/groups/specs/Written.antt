@@ -3,6 +3,7 @@ use Prim.Native.Nat.{ℕ, _+_, _≤_, _<_}
 use mathlib.Core.Path.{_≡_}
 use mathlib.Core.List.{List, _++_}
 use lib.ListN.{length, take}
+use Rattle.checks.specs.declared.Number.{Number}
 use Rattle.checks.specs.declared.Refusal.{Refusal}
 use Rattle.lines.specs.Writing.{onto}
 use Rattle.numbers.specs.Limits.{mostPrecision, limbsFor}
@@ -42,6 +43,12 @@ pub record NumberRead (place : ℕ) (line exit : List ℕ) (r : Head) : Type 0 w
   pub number : r .refusal .rule ≡ 0 → r .number ≡ numberIn line
   pub few : r .refusal .rule ≡ 0 → limbsFor (numberIn line .precision) ≤ mostLimbs
   pub limbs : r .refusal .rule ≡ 0 → take (limbsFor (numberIn line .precision)) exit ≡ limbsOfLine line
+
+-- a line's number, read and accepted
+pub record NumberHeld (place : ℕ) (line : List ℕ) (x : Number) (limbs : List ℕ) : Type 0 where
+  pub refusal : numberRefusal place line .rule ≡ 0
+  pub number : x ≡ numberIn line
+  pub limbs-are : limbs ≡ limbsOfLine line
 
 -- the answer of a group, in a room that is long enough
 pub record AnswerTold (first second third entry exit : List ℕ) (count : ℕ) : Type 0 where

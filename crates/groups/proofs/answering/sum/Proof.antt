@@ -1,0 +1,29 @@
+use borrow.Author.Needs.{needs}
+use Rattle.groups.proofs.answering.sum.Statement.{statement}
+use Rattle.groups.proofs.answering.sum.Tie as tie
+use Rattle.groups.proofs.answering.sum.Reads as reads
+use Rattle.groups.proofs.answering.sum.Lts as lts
+use Rattle.sums.proofs.add.Reads as add-reads
+use Rattle.sums.proofs.subtract.Reads as subtract-reads
+
+subtract-requires : tie.Need-subtract-requires
+subtract-requires c κs = ?
+
+same-length : tie.Need-same-length
+same-length c = ?
+
+returns : tie.Need-returns
+returns c = ?
+
+add-requires : tie.Need-add-requires
+add-requires c κs = ?
+
+same-length-2 : tie.Need-same-length-2
+same-length-2 c = ?
+
+returns-2 : tie.Need-returns-2
+returns-2 c = ?
+
+pub sum-spec : {M : Type 1} → statement M
+sum-spec =
+    tie.close (tie.spec subtract-requires same-length returns add-requires same-length-2 returns-2)
