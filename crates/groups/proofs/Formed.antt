@@ -7,7 +7,7 @@ use native.Mathlib.Nat.{mul-mod-left, mul-le-mul-right, mul-lt-mul-of-pos-right,
 use native.Mathlib.Omega.{arith}
 use native.Mathlib.Decide.{decLt}
 use lib.IntN.{ℤ, pos}
-use lib.ListN.{length, replicate, length-replicate}
+use lib.ListN.{length, replicate, length-replicate, getD}
 use lib.Pow.{pow-add, pow-pos}
 use Rattle.limb.specs.Value.{valueOf, Below}
 use Rattle.numbers.specs.Limits.{leastPrecision, mostPrecision, bias, counted, leastExponent, mostExponent, limbsFor}
@@ -77,8 +77,13 @@ module _ (p d : ℕ) (P : 0 < p) (lead : 2 ^ (p - 1) ≤ d) (few : d < 2 ^ p) wh
   worth : valueOf (limbsOf (limbsFor p) (d * 2 ^ spareBits p)) ≡ d * 2 ^ spareBits p
   worth = limbs-value (limbsFor p) (d * 2 ^ spareBits p) below
 
+zeros-at : (n i : ℕ) → _≡_ {A = ℕ} (getD (replicate n 0) i 0) 0
+zeros-at zero i = refl
+zeros-at (suc n) zero = refl
+zeros-at (suc n) (suc i) = zeros-at n i
+
 zeros-below : (n : ℕ) → Below (2 ^ 64) (replicate n 0)
-zeros-below n = ?
+zeros-below n i = rw (zeros-at n i) (omega arith)
 
 module _ (p : ℕ) (least : leastPrecision ≤ p) (most : p ≤ mostPrecision) where
   some : 0 < p

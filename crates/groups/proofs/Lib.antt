@@ -2,3 +2,4 @@ pub mod Tellings
 pub mod Numbers
 pub mod Orders
 pub mod Formed
+pub mod Groups

@@ -116,12 +116,12 @@ module _ (place : ℕ) (line : List ℕ) where
             }
 
 -- what was read is held
-pub number-held : (place : ℕ) (line exit : List ℕ) (r : Head) (n : ℕ) → NumberRead place line exit r → r .refusal .rule ≡ 0 → n ≡ min (limbsFor (r .number .precision)) mostLimbs → NumberHeld place line (r .number) (take n exit)
+pub number-held : (place : ℕ) (line exit : List ℕ) (r : Head) (n : ℕ) → NumberRead place line exit r → r .refusal .rule ≡ 0 → n ≡ min (limbsFor (r .number .precision)) mostLimbs → NumberHeld place line (r .number) (take (n - 0) (drop 0 exit))
 number-held place line exit r n k z c = record {
   refusal = ap (λ (x : Refusal). x .rule) (sym (k .refusal)) ∙ z;
   number = k .number z;
   limbs-are =
       let e : n ≡ min (limbsFor (numberIn line .precision)) mostLimbs = c ∙ ap (λ (x : Number). min (limbsFor (x .precision)) mostLimbs) (k .number z) in
-      let m : n ≡ limbsFor (numberIn line .precision) = omega (arith, e, k .few z) in
+      let m : n - 0 ≡ limbsFor (numberIn line .precision) = omega (arith, e, k .few z) in
       ap (λ (j : ℕ). take j exit) m ∙ k .limbs z;
 }

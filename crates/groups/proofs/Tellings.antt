@@ -4,7 +4,9 @@ use mathlib.Core.Bool.{Bool, true, false, cond}
 use mathlib.Core.List.{List, [], _∷_, _++_, append-assoc}
 use Prim.Native.Nat.{ℕ, zero, suc, _+_, _-_, _*_, _≤_, _<_}
 use native.Mathlib.Omega.{arith}
+use native.Mathlib.Decide.{ℕ-discrete}
 use borrow.Author.Tests.{eq-eqb, ne-eqb, ltb-true, ltb-false}
+use lib.Dec.{eqb}
 use lib.IntN.{ℤ, pos, negsuc}
 use lib.Signed.{ltZ}
 use lib.ListN.{length, take, drop, set, length-append, length-drop}
@@ -84,6 +86,10 @@ module _ (s : Sum) (at v : ℕ) (o a b c d e : List ℕ) (i j k l n : ℕ) where
       let m = u .1 ((((told ++ numeral 2 v) ++ numeral 4 (s .depth)) ++ numeral 2 (s .first)) ++ numeral 2 (s .second)) room (simp (length-append, length-numeral) (omega (arith, p .0, q .0, r .0, t .0))) z in
       m ∙ ap (λ (x : List ℕ). onto x room) (simp (append-assoc, g)))
 
+pub refusal-length : (r : Refusal) → length (refusalLine r) ≡ 7
+unfolding refusalLine
+refusal-length r = simp (length-append, length-numeral)
+
 report-length : (s : Sum) → length (reportLine s) ≡ reportSize
 unfolding reportLine reportSize
 report-length s = simp (length-append, length-numeral)
@@ -118,19 +124,19 @@ size-fits : (b : Bool) (n m : ℕ) → n ≤ m → cond b shortestLine (shortest
 size-fits true n m h = omega arith
 size-fits false n m h = omega arith
 
+line-fits : (x : Number) (limbs : List ℕ) → WellFormed (operandOf x limbs) → length (lineOf x limbs) ≤ longestLine
+unfolding longestLine lineSize operandOf
+line-fits x limbs formed = rw (size-is x limbs (formed .count)) (size-fits (isZeroKind (x .kind)) _ _ (limbs-few (x .precision) (formed .most)))
+
 -- a number of good form is written, and the report comes behind it
 module _ (s : Sum) (limbs o : List ℕ) (formed : WellFormed (operandOf (s .number) limbs)) (room : longestAnswer ≤ length o) where
-  line-fits : length (lineOf (s .number) limbs) ≤ longestLine
-  unfolding longestLine lineSize operandOf
-  line-fits = rw (size-is (s .number) limbs (formed .count)) (size-fits (isZeroKind (s .number .kind)) _ _ (limbs-few (s .number .precision) (formed .most)))
-
   alone : aloneRefusal (operandOf (s .number) limbs) .rule ≡ 0
   unfolding accepted
   alone = ap (λ (r : Refusal). r .rule) (alone-accepted (operandOf (s .number) limbs) formed)
 
   is-written : writeRefusal (s .number) limbs (length o) ≡ accepted
   unfolding longestAnswer
-  is-written = write-accepted (s .number) limbs (length o) alone (omega (arith, line-fits))
+  is-written = write-accepted (s .number) limbs (length o) alone (omega (arith, line-fits (s .number) limbs formed))
 
   count-is-size : (w : Written) → w ≡ writtenOf (s .number) limbs (length o) → w .count ≡ length (lineOf (s .number) limbs)
   unfolding writtenOf accepted
@@ -138,7 +144,7 @@ module _ (s : Sum) (limbs o : List ℕ) (formed : WellFormed (operandOf (s .numb
 
   pub count-fits : (w : Written) → w ≡ writtenOf (s .number) limbs (length o) → w .count + reportSize ≤ length o
   unfolding longestAnswer
-  count-fits w e = omega (arith, line-fits, count-is-size w e)
+  count-fits w e = omega (arith, line-fits (s .number) limbs formed, count-is-size w e)
 
   pub sum-told : (w : Written) (a b : List ℕ) (n : ℕ) → s .refusal .rule ≡ 0 → w ≡ writtenOf (s .number) limbs (length o) → a ≡ roomAfter (s .number) limbs o → Appends (reportLine s) reportSize (w .count) a b n
       → Tells (sumLines s limbs) o b n
@@ -151,3 +157,12 @@ module _ (s : Sum) (limbs o : List ℕ) (formed : WellFormed (operandOf (s .numb
         count-is = p .0 ∙ simp (length-append, report-length s, c);
         exit-is = p .1 (lineOf (s .number) limbs) o (sym c) g;
       })
+
+-- no answer is longer than the longest
+pub sum-few : (s : Sum) (limbs : List ℕ) → (s .refusal .rule ≡ 0 → WellFormed (operandOf (s .number) limbs)) → length (sumLines s limbs) ≤ longestAnswer
+unfolding sumLines longestAnswer
+sum-few s limbs f = go (ℕ-discrete (s .refusal .rule) 0)
+  where
+    go : Dec (s .refusal .rule ≡ 0) → length (cond (eqb (s .refusal .rule) 0) (lineOf (s .number) limbs ++ reportLine s) (refusalLine (s .refusal))) ≤ longestLine + reportSize
+    go (yes z) = simp (eq-eqb (s .refusal .rule) 0 z, length-append, report-length s) (omega (arith, line-fits (s .number) limbs (f z)))
+    go (no z) = simp (ne-eqb (s .refusal .rule) 0 z, refusal-length (s .refusal)) (omega (arith, refusal-fits))
