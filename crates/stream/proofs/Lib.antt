@@ -2,4 +2,5 @@ pub mod Keeping
 pub mod Taking
 pub mod Underway
 pub mod Resuming
+pub mod Cuts
 pub mod Printing

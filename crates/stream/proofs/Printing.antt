@@ -5,30 +5,45 @@ use mathlib.Core.List.{List, [], _∷_, _++_, map, append-nil, append-assoc}
 use Prim.Native.Nat.{ℕ, zero, suc, _+_, _-_, _≤_, _<_}
 use native.Mathlib.Omega.{arith}
 use lib.ListN.{length, take, drop}
-use lib.Seq.{take-add}
+use lib.Seq.{take-add, take-at}
+use Rattle.lines.specs.Writing.{onto}
 use Rattle.groups.specs.Answer.{Answered}
 use Rattle.stream.specs.Lines.{linesOf, cutLine}
-use Rattle.stream.specs.Group.{Group, noGroup, isWhole, after, taken}
+use Rattle.stream.specs.Group.{Group, noGroup, isWhole, after, taken, groupIn, heldOf}
 use Rattle.stream.specs.Desk.{Printed, nothing, noSecond, noThird, group, Desk, cutShort}
-use Rattle.stream.specs.Serving.{Serves, ended, full, waits, answers, Ends, oneLine, onlyOne, twoLines, onlyTwo, threeLines, Runs, ends, serves}
+use Rattle.stream.specs.Serving.{State, groupOf, keeping, fresh, Serves, ended, full, waits, answers, Ends, oneLine, onlyOne, twoLines, onlyTwo, threeLines, Runs, ends, serves}
 use Rattle.stream.specs.Serving as serving
+use Rattle.stream.proofs.Cuts.{answered-cut}
 use Rattle.stream.proofs.Resuming.{some, linesFrom, resumed, resume, Tidy, tidy-none, tidy-after, resume-after, resume-whole, lines-kept}
 
-pub served-tidy : {room n : ℕ} {g h : Group} {bytes told : List ℕ} → Serves room g bytes n told h → Tidy g → Tidy h
+-- what is kept is what was to be kept
+kept-group : (g : Group) (s : State) → groupOf (keeping (heldOf g) g s) ≡ g
+unfolding groupOf keeping groupIn heldOf onto
+kept-group g s =
+    simp
+    (take-at (g .first) (drop (length (g .first)) (s .first)) (length (g .first)) refl, take-at (g .second) (drop (length (g .second)) (s .second)) (length (g .second)) refl, take-at (g .third) (drop (length (g .third)) (s .third)) (length (g .third)) refl)
+
+kept-none : (g : Group) (s : State) → groupOf (keeping (heldOf noGroup) g s) ≡ noGroup
+unfolding groupOf keeping groupIn heldOf noGroup
+kept-none g s = refl
+
+served-tidy : {room n : ℕ} {s t : State} {bytes told : List ℕ} → Serves room s bytes n told t → Tidy (groupOf s) → Tidy (groupOf t)
 served-tidy ended t = t
-served-tidy (full r) t = t
-served-tidy {g = g} {bytes = bytes} (waits r w) t = tidy-after bytes g t
-served-tidy (answers r w a s) t = served-tidy s tidy-none
+served-tidy (full b r) t = t
+served-tidy {s = s} {bytes = bytes} (waits b r w) t = rw (kept-group (after (groupOf s) bytes) s) (tidy-after bytes (groupOf s) t)
+served-tidy {s = s} {bytes = bytes} (answers b r w a k) t = served-tidy k (rw (kept-none (after (groupOf s) bytes) s) tidy-none)
 
 -- what is printed for a piece comes before what is printed for the rest
-pub served-printed : {room n : ℕ} {g h : Group} {bytes told : List ℕ} (rest out : List ℕ) → Serves room g bytes n told h → Tidy g
-    → Printed (resume h rest) out → Printed (resume g (take n bytes ++ rest)) (told ++ out)
+served-printed : {room n : ℕ} {s t : State} {bytes told : List ℕ} (rest out : List ℕ) → Serves room s bytes n told t → Tidy (groupOf s)
+    → Printed (resume (groupOf t) rest) out → Printed (resume (groupOf s) (take n bytes ++ rest)) (told ++ out)
 served-printed rest out ended t p = p
-served-printed rest out (full r) t p = p
-served-printed {g = g} {bytes = bytes} rest out (waits r w) t p = rw (resume-after bytes g rest t) p
-served-printed {g = g} {bytes = bytes} rest out (answers {n = n} {told = told} {rest = more} r w a s) t p =
-    let q = served-printed rest out s tidy-none p in
-    rw (take-add (taken g bytes) n bytes, append-assoc (take (taken g bytes) bytes) (take n (drop (taken g bytes) bytes)) rest, resume-after bytes g (take n (drop (taken g bytes) bytes) ++ rest) t, resume-whole (after g bytes) (take n (drop (taken g bytes) bytes) ++ rest) w, append-assoc told more out)
+served-printed rest out (full b r) t p = p
+served-printed {s = s} {bytes = bytes} rest out (waits b r w) t p =
+    rw (resume-after bytes (groupOf s) rest t) (rw (kept-group (after (groupOf s) bytes) s) at p)
+served-printed {s = s} {bytes = bytes} rest out (answers {n = n} {told = told} {rest = more} b r w a k) t p =
+    let g = groupOf s in
+    let q = rw (kept-none (after (groupOf s) bytes) s) at (served-printed rest out k (rw (kept-none (after (groupOf s) bytes) s) tidy-none) p) in
+    rw (take-add (taken (groupOf s) bytes) n bytes, append-assoc (take (taken (groupOf s) bytes) bytes) (take n (drop (taken (groupOf s) bytes) bytes)) rest, resume-after bytes (groupOf s) (take n (drop (taken (groupOf s) bytes) bytes) ++ rest) t, resume-whole (after (groupOf s) bytes) (take n (drop (taken (groupOf s) bytes) bytes) ++ rest) w, append-assoc told more out)
     (group a q)
 
 some-none : (l : List ℕ) → l ≡ [] → some l ≡ []
@@ -50,6 +65,28 @@ ended-printed {g} (twoLines z e) = simp (z, some-one (g .second) e) (noThird (g 
 ended-printed {g} (onlyTwo z e) = simp (z, some-none (g .third) e) (noThird (g .first) (g .second))
 ended-printed {g} {told} (threeLines z e a) = simp (z, some-one (g .third) e) (subst (Printed (g .first ∷ g .second ∷ g .third ∷ [])) (append-nil told) (group a nothing))
 
-run-printed : {g : Group} {input output : List ℕ} → Runs g input output → Tidy g → Printed (resume g input) output
+run-printed : {s : State} {input output : List ℕ} → Runs s input output → Tidy (groupOf s) → Printed (resume (groupOf s) input) output
 run-printed (ends e) t = ended-printed e
 run-printed (serves {rest = rest} {out = out} s r) t = served-printed rest out s t (run-printed r (served-tidy s t))
+
+fresh-none : (a b c : List ℕ) → groupOf (fresh a b c) ≡ noGroup
+unfolding groupOf fresh groupIn heldOf noGroup
+fresh-none a b c = refl
+
+resume-none : (input : List ℕ) → resume noGroup input ≡ map cutLine (linesOf input)
+unfolding resume resumed noGroup
+resume-none input = lines-kept input
+
+cut-printed : (ls : List (List ℕ)) {out : List ℕ} → Printed (map cutLine ls) out → Printed ls out
+cut-printed [] nothing = nothing
+cut-printed (a ∷ []) (noSecond x) = noSecond a
+cut-printed (a ∷ b ∷ []) (noThird x y) = noThird a b
+cut-printed (a ∷ b ∷ c ∷ ls) (group k p) = group (answered-cut a b c k) (cut-printed ls p)
+
+-- "however the input is split into reads": all that is printed is what the definition says of all that came
+pub desk-right : (first second third : List ℕ) {input output : List ℕ} → Runs (fresh first second third) input output → Desk input output
+desk-right a b c {input} {output} r =
+    cut-printed (linesOf input)
+    (subst (λ (ls : List (List ℕ)). Printed ls output) (resume-none input)
+    (subst (λ (g : Group). Printed (resume g input) output) (fresh-none a b c)
+    (run-printed r (rw (fresh-none a b c) tidy-none))))

@@ -52,7 +52,7 @@ fn at_most_room(n: usize) -> usize
 }
 
 // The same bytes held, counted within their buffers.
-fn within(h: Held) -> Held
+pub(crate) fn within(h: Held) -> Held
     ensures { λ r. ⌜ (r .lines ≡ h .lines) × Counts (h .first) (r .first) × Counts (h .second) (r .second) × Counts (h .third) (r .third) ⌝ }
 {
     Held {

@@ -4,7 +4,17 @@ use crate::cutting::Held;
 use crate::cutting::cut;
 use crate::cutting::line_room;
 use crate::cutting::start;
+use crate::cutting::within;
+ghost use mathlib.Core.Path.{_≡_};
+ghost use mathlib.Core.Bool.{true};
 ghost use Prim.Native.Nat.{_≤_};
+ghost use lib.ListN.{length, take};
+ghost use Rattle.lines.specs.Writing.{onto};
+ghost use Rattle.groups.specs.Written.{Answers, Tells};
+ghost use Rattle.groups.specs.Answer.{longestAnswer};
+ghost use Rattle.stream.specs.Group.{Rooms, Within};
+ghost use Rattle.stream.specs.Desk.{cutShort};
+ghost use Rattle.stream.specs.Serving.{State, isReady, ServedBy, Finished};
 
 // What is held after a piece, how many of its bytes were taken, and how many bytes were printed.
 pub struct Served {
@@ -13,15 +23,31 @@ pub struct Served {
     pub told: usize,
 }
 
-// The buffers have their sizes, and no group is whole yet.
+// No group is whole yet, the buffers have their size, and there is room for any answer.
 fn ready(held: Held, first: &[u8], second: &[u8], third: &[u8], out: &[u8]) -> bool
+    ensures { λ r. ⌜ r ≡ isReady (record { held = held; first = now (first .entry); second = now (second .entry); third = now (third .entry) }) (now (out .entry)) ⌝ }
 {
     let room = line_room();
-    (held.lines < 3) & (first.len() == room) & (second.len() == room) & (third.len() == room) & (groups::LONGEST_ANSWER <= out.len())
+    let most = groups::longest_answer();
+    if 3 <= held.lines {
+        return false;
+    }
+    if first.len() != room {
+        return false;
+    }
+    if second.len() != room {
+        return false;
+    }
+    if third.len() != room {
+        return false;
+    }
+    most <= out.len()
 }
 
 // The answer of a whole group.
 fn answer(held: Held, first: &[u8], second: &[u8], third: &[u8], out: &mut [u8]) -> usize
+    requires { ⌜ Within held × Rooms (now first) (now second) (now third) ⌝ }
+    ensures { λ r. ⌜ Answers (take (held .first) (now (first .entry))) (take (held .second) (now (second .entry))) (take (held .third) (now (third .entry))) (now (out .entry)) (now (out .exit)) r ⌝ }
 {
     let a = held.first;
     let b = held.second;
@@ -29,51 +55,42 @@ fn answer(held: Held, first: &[u8], second: &[u8], third: &[u8], out: &mut [u8])
     groups::answer(&first[0..a], &second[0..b], &third[0..c], out)
 }
 
-// Takes bytes to the end of a group and prints its answer, or takes all.
-fn serve_group(held: Held, bytes: &[u8], first: &mut [u8], second: &mut [u8], third: &mut [u8], out: &mut [u8]) -> Served
+// Group after group, as long as there is room for a longest answer.
+fn serve_groups(
+    held: Held,
+    bytes: &[u8],
+    first: &mut [u8],
+    second: &mut [u8],
+    third: &mut [u8],
+    out: &mut [u8],
+) -> Served
+    requires { ⌜ isReady (record { held = held; first = now first; second = now second; third = now third }) (now out) ≡ true ⌝ }
+    ensures { λ r. ⌜ ServedBy (record { held = held; first = now (first .entry); second = now (second .entry); third = now (third .entry) }) (now (bytes .entry)) (record { held = r .held; first = now (first .exit); second = now (second .exit); third = now (third .exit) }) (now (out .entry)) (now (out .exit)) r ⌝ }
 {
-    let p = cut(held, bytes, first, second, third);
-    let h = p.held;
-    if h.lines < 3 {
-        return Served {
-            held: h,
-            taken: p.taken,
-            told: 0,
-        };
-    }
-    let told = answer(h, first, second, third, out);
-    Served {
-        held: start(),
-        taken: p.taken,
-        told: told,
-    }
-}
-
-// Serves group after group, as long as there is room for a longest answer.
-pub fn serve(held: Held, bytes: &[u8], first: &mut [u8], second: &mut [u8], third: &mut [u8], out: &mut [u8]) -> Served
-{
+    let most = groups::longest_answer();
     let mut h = held;
     let mut taken: usize = 0;
     let mut told: usize = 0;
-    if !ready(held, first, second, third, out) {
-        return Served {
-            held: held,
-            taken: 0,
-            told: 0,
-        };
-    }
     while taken < bytes.len() {
-        if out.len() - told < groups::LONGEST_ANSWER {
+        if out.len() - told < most {
             return Served {
                 held: h,
                 taken: taken,
                 told: told,
             };
         }
-        let s = serve_group(h, &bytes[taken..], first, second, third, &mut out[told..]);
-        h = s.held;
-        taken += s.taken;
-        told += s.told;
+        let p = cut(h, &bytes[taken..], first, second, third);
+        let k = p.held;
+        taken += p.taken;
+        if k.lines < 3 {
+            return Served {
+                held: k,
+                taken: taken,
+                told: told,
+            };
+        }
+        told += answer(k, first, second, third, &mut out[told..]);
+        h = start();
     }
     Served {
         held: h,
@@ -82,14 +99,44 @@ pub fn serve(held: Held, bytes: &[u8], first: &mut [u8], second: &mut [u8], thir
     }
 }
 
+// Takes bytes of a piece, and prints the answers of the groups that end in it.
+pub fn serve(
+    held: Held,
+    bytes: &[u8],
+    first: &mut [u8],
+    second: &mut [u8],
+    third: &mut [u8],
+    out: &mut [u8],
+) -> Served
+    ensures { λ r. ⌜ ServedBy (record { held = held; first = now (first .entry); second = now (second .entry); third = now (third .entry) }) (now (bytes .entry)) (record { held = r .held; first = now (first .exit); second = now (second .exit); third = now (third .exit) }) (now (out .entry)) (now (out .exit)) r ⌝ }
+{
+    if !ready(held, first, second, third, out) {
+        return Served {
+            held: held,
+            taken: 0,
+            told: 0,
+        };
+    }
+    serve_groups(held, bytes, first, second, third, out)
+}
+
 // A group that the input cuts short: 8 at its first missing line.
 fn cut_short(missing: u8, out: &mut [u8]) -> usize
+    requires { ⌜ longestAnswer ≤ length (now out) ⌝ }
+    ensures { λ r. ⌜ Tells (cutShort missing) (now (out .entry)) (now (out .exit)) r ⌝ }
 {
-    groups::refuse(Refusal { rule: 8, place: missing }, out)
+    groups::refuse(
+        Refusal {
+            rule: 8,
+            place: missing,
+        },
+        out,
+    )
 }
 
 // What is printed at the end of the input.
 pub fn finish(held: Held, first: &[u8], second: &[u8], third: &[u8], out: &mut [u8]) -> usize
+    ensures { λ r. ⌜ Finished (record { held = held; first = now (first .entry); second = now (second .entry); third = now (third .entry) }) (now (out .entry)) (now (out .exit)) r ⌝ }
 {
     if !ready(held, first, second, third, out) {
         return 0;
@@ -109,5 +156,6 @@ pub fn finish(held: Held, first: &[u8], second: &[u8], third: &[u8], out: &mut [
     if held.third == 0 {
         return cut_short(3, out);
     }
-    answer(held, first, second, third, out)
+    let h = within(held);
+    answer(h, first, second, third, out)
 }
