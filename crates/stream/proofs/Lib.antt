@@ -4,3 +4,4 @@ pub mod Underway
 pub mod Resuming
 pub mod Cuts
 pub mod Printing
+pub mod Pieces
