@@ -21,20 +21,32 @@ fn serve_piece(
     while at < piece.len() {
         let s = stream::serve(h, &piece[at..], first, second, third, out);
         if s.taken == 0 {
-            return Going { held: h, stopped: true };
+            return Going {
+                held: h,
+                stopped: true,
+            };
         }
         let told = s.told;
         if !io::write_all(1, &out[0..told]) {
-            return Going { held: h, stopped: true };
+            return Going {
+                held: h,
+                stopped: true,
+            };
         }
         h = s.held;
         at += s.taken;
     }
-    Going { held: h, stopped: false }
+    Going {
+        held: h,
+        stopped: false,
+    }
 }
 
 fn run(piece: &mut [u8], first: &mut [u8], second: &mut [u8], third: &mut [u8], out: &mut [u8]) {
-    let mut g = Going { held: stream::start(), stopped: false };
+    let mut g = Going {
+        held: stream::start(),
+        stopped: false,
+    };
     let mut turns: u64 = 18446744073709551615;
     while 0 < turns {
         let got = io::read_full(0, piece);

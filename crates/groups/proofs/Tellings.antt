@@ -51,11 +51,12 @@ put-more out t at n v h e = (refl, λ told room l f. put-numeral out told room t
 
 pub end-more : (out : List ℕ) (at : ℕ) → at < length out → Appends (lineFeed ∷ []) 1 at out (set out at 10) (at + 1)
 unfolding lineFeed
-end-more out at h =
-    (refl,
-    λ told room l f.
-    let k : at < length (onto told room) = omega (arith, ap length f) in
-    ap (λ (x : List ℕ). set x at 10) f ∙ set-onto told room at 10 (sym l) (longer told room at l k))
+end-more out at h = (
+  refl,
+  λ told room l f.
+      let k : at < length (onto told room) = omega (arith, ap length f) in
+      ap (λ (x : List ℕ). set x at 10) f ∙ set-onto told room at 10 (sym l) (longer told room at l k),
+)
 
 -- ee, number, place, LF
 module _ (r : Refusal) (o a b c d : List ℕ) (i j k n : ℕ) where
@@ -76,15 +77,16 @@ module _ (s : Sum) (at v : ℕ) (o a b c d e : List ℕ) (i j k l n : ℕ) where
   pub report-told : v ≡ ternaryByte (s .ternary) → Appends (numeral 2 v) 2 at o a i → Appends (numeral 4 (s .depth)) 4 i a b j → Appends (numeral 2 (s .first)) 2 j b c k → Appends (numeral 2 (s .second)) 2 k c d l → Appends (lineFeed ∷ []) 1 l d e n
       → Appends (reportLine s) reportSize at o e n
   unfolding reportLine reportSize
-  report-told g p q r t u =
-      (omega (arith, p .0, q .0, r .0, t .0, u .0),
-      λ told room h f.
-      let w = p .1 told room h f in
-      let x = q .1 (told ++ numeral 2 v) room (simp (length-append, length-numeral) (omega (arith, p .0))) w in
-      let y = r .1 ((told ++ numeral 2 v) ++ numeral 4 (s .depth)) room (simp (length-append, length-numeral) (omega (arith, p .0, q .0))) x in
-      let z = t .1 (((told ++ numeral 2 v) ++ numeral 4 (s .depth)) ++ numeral 2 (s .first)) room (simp (length-append, length-numeral) (omega (arith, p .0, q .0, r .0))) y in
-      let m = u .1 ((((told ++ numeral 2 v) ++ numeral 4 (s .depth)) ++ numeral 2 (s .first)) ++ numeral 2 (s .second)) room (simp (length-append, length-numeral) (omega (arith, p .0, q .0, r .0, t .0))) z in
-      m ∙ ap (λ (x : List ℕ). onto x room) (simp (append-assoc, g)))
+  report-told g p q r t u = (
+    omega (arith, p .0, q .0, r .0, t .0, u .0),
+    λ told room h f.
+        let w = p .1 told room h f in
+        let x = q .1 (told ++ numeral 2 v) room (simp (length-append, length-numeral) (omega (arith, p .0))) w in
+        let y = r .1 ((told ++ numeral 2 v) ++ numeral 4 (s .depth)) room (simp (length-append, length-numeral) (omega (arith, p .0, q .0))) x in
+        let z = t .1 (((told ++ numeral 2 v) ++ numeral 4 (s .depth)) ++ numeral 2 (s .first)) room (simp (length-append, length-numeral) (omega (arith, p .0, q .0, r .0))) y in
+        let m = u .1 ((((told ++ numeral 2 v) ++ numeral 4 (s .depth)) ++ numeral 2 (s .first)) ++ numeral 2 (s .second)) room (simp (length-append, length-numeral) (omega (arith, p .0, q .0, r .0, t .0))) z in
+        m ∙ ap (λ (x : List ℕ). onto x room) (simp (append-assoc, g)),
+  )
 
 pub refusal-length : (r : Refusal) → length (refusalLine r) ≡ 7
 unfolding refusalLine

@@ -1,5 +1,4 @@
 // The answer of a group: line after line, and then the sum.
-use checks::Number;
 use crate::number::MOST_LIMBS;
 use crate::number::limb_count;
 use crate::number::read_number;
@@ -8,6 +7,7 @@ use crate::order::read_order;
 use crate::telling::longest_answer;
 use crate::telling::put_refusal;
 use crate::telling::put_sum;
+use checks::Number;
 use sums::Sum;
 ghost use mathlib.Core.Path.{_≡_};
 ghost use Prim.Native.Nat.{ℕ, _≤_};

@@ -5,6 +5,6 @@ mod order; // order.rt: the desk line
 mod answering; // answering.rt: the group's answer
 
 pub use answering::answer;
+pub use telling::LONGEST_ANSWER;
 pub use telling::longest_answer;
 pub use telling::refuse;
-pub use telling::LONGEST_ANSWER;

@@ -1,10 +1,10 @@
 // A line read: its checks in their order, its number, its limbs.
-use checks::Kind;
-use checks::Number;
-use checks::Refusal;
 use crate::Head;
 use crate::SHORTEST_LINE;
 use crate::line_size;
+use checks::Kind;
+use checks::Number;
+use checks::Refusal;
 ghost use mathlib.Core.Path.{_≡_};
 ghost use mathlib.Core.Bool.{true};
 ghost use Prim.Native.Nat.{_+_, _*_, _^_, _≤_, _<_};

@@ -1,9 +1,9 @@
 // A line written: its checks in their order, then its bytes from the room's start.
+use crate::Written;
+use crate::line_size;
 use checks::Kind;
 use checks::Number;
 use checks::Refusal;
-use crate::Written;
-use crate::line_size;
 ghost use mathlib.Core.Path.{_≡_};
 ghost use Prim.Native.Nat.{_*_, _≤_, _^_};
 ghost use lib.ListN.{length};

@@ -311,6 +311,14 @@ module _ (most : ℕ) (start : State) (bytes entry : List ℕ) (s : State) (out 
       third = omega (arith, r .third, ap length third-is, onto-longer (h .third) (s .third), ap (λ (k : Held). k .third) held-is);
     }
 
+pub serve-unready : (s : State) (bytes out : List ℕ) → isReady s out ≡ false → ServedBy s bytes s out out (record { held = s .held; taken = 0; told = 0 })
+serve-unready s bytes out r = record {
+  unready = λ f. (refl, refl, refl);
+  served = λ f. absurd (true-false f r);
+  told = λ f. absurd (true-false f r);
+  fits = omega arith;
+}
+
 -- ---- the end of the input
 
 pub whole-part : (n : ℕ) → n - 0 ≡ n
@@ -379,5 +387,5 @@ module _ (s : State) (out exit : List ℕ) (n : ℕ) where
         let e : n ≤ length exit = omega (arith, t .fits long, ap length (t .told long), onto-longer (take n exit) out, onto-as-long (take n exit) out) in
         let m : length (take n exit) ≡ n = length-take-le n exit e in
         let g : Answered (take (s .held .first) (s .first)) (take (s .held .second) (s .second)) (take (s .held .third) (s .third)) (take n exit) =
-            rw (i .1 (s .first) (rooms .first), j .1 (s .second) (rooms .second), k .1 (s .third) (rooms .third)) at (t .answered long) in
+        rw (i .1 (s .first) (rooms .first), j .1 (s .second) (rooms .second), k .1 (s .third) (rooms .third)) at (t .answered long) in
         finish-told (take n exit) (record { count-is = sym m; exit-is = t .told long }) (threeLines (two-lines a b) (some-byte (s .held .third) (s .third) f (rooms .third)) g)

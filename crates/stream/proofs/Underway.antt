@@ -124,7 +124,7 @@ module _ (start h : Held) (bytes a b c x y z : List ℕ) (i : ℕ) (g : Going st
           took =
               let e : taken (groupIn r u v w) (drop (i + 1) bytes) ≡ taken (withByte (groupIn h x y z) (getD bytes i 0)) (drop (i + 1) bytes) = ap (λ (k : Group). taken k (drop (i + 1) bytes)) (t .group) in
               let f : taken (groupIn h x y z) (drop i bytes) ≡ suc (taken (withByte (groupIn h x y z) (getD bytes i 0)) (drop (i + 1) bytes)) =
-                  ap (taken (groupIn h x y z)) next ∙ taken-byte (groupIn h x y z) (getD bytes i 0) (drop (i + 1) bytes) o in
+              ap (taken (groupIn h x y z)) next ∙ taken-byte (groupIn h x y z) (getD bytes i 0) (drop (i + 1) bytes) o in
               omega (arith, e, f, g .took);
           first = grown-twice (g .first) (t .first);
           second = grown-twice (g .second) (t .second);
@@ -145,6 +145,7 @@ module _ (start h : Held) (bytes a b c x y z : List ℕ) (i : ℕ) (g : Going st
           second = held-is (start .second) (h .second) b y (g .rooms .second) (g .second) ∙ ap (λ (l : List ℕ). onto l b) (two-of h x y z ∙ ap (λ (k : Group). k .second) all);
           third = held-is (start .third) (h .third) c z (g .rooms .third) (g .third) ∙ ap (λ (l : List ℕ). onto l c) (three-of h x y z ∙ ap (λ (k : Group). k .third) all);
         }
+
     pub stops-whole : 3 ≤ h .lines → Cuts n bytes a b c x y z (record { held = h; taken = i })
     stops-whole e =
         let o : isWhole (groupIn h x y z) ≡ true = whole-is h x y z e in

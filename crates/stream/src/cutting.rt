@@ -84,13 +84,7 @@ fn lines_after(lines: usize, b: u8) -> usize
 }
 
 // A byte goes to the line under way.
-fn take_byte(
-    h: Held,
-    b: u8,
-    first: &mut [u8],
-    second: &mut [u8],
-    third: &mut [u8],
-) -> Held
+fn take_byte(h: Held, b: u8, first: &mut [u8], second: &mut [u8], third: &mut [u8]) -> Held
     requires { ⌜ Within h × (h .lines < 3) × Rooms (now first) (now second) (now third) ⌝ }
     ensures { λ r. ⌜ Takes h b (now (first .entry)) (now (second .entry)) (now (third .entry)) (now (first .exit)) (now (second .exit)) (now (third .exit)) r ⌝ }
 {

@@ -1,10 +1,10 @@
 // Pieces of the input taken, and what is printed for the groups that end in them.
-use checks::Refusal;
 use crate::cutting::Held;
 use crate::cutting::cut;
 use crate::cutting::line_room;
 use crate::cutting::start;
 use crate::cutting::within;
+use checks::Refusal;
 ghost use mathlib.Core.Path.{_≡_};
 ghost use mathlib.Core.Bool.{true};
 ghost use Prim.Native.Nat.{_≤_};

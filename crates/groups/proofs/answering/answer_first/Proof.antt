@@ -25,7 +25,7 @@ same-length-2 : tie.Need-same-length-2
 same-length-2 c = search needs
 
 returns : tie.Need-returns
-returns c = 
+returns c =
     let g = c .before .before .before .before .before .before .before .before .before .before .before .before .before .before .before .before .before .before .args in
     refused-first (g .first .now) (g .second .now) (g .third .now) (g .out .now) _ _ _ (c .before .before .before .before .before .before .before .before .before .read-number .result) (c .before .before .before .before .before .before .before .before .before .read-number .ensures) (c .before .before .before .before .if1 .taken) (c .before .before .put-refusal .ensures)
 
@@ -57,7 +57,7 @@ same-length-6 : tie.Need-same-length-6
 same-length-6 c = search needs
 
 returns-2 : tie.Need-returns-2
-returns-2 c = 
+returns-2 c =
     let g = c .before .before .before .before .before .before .before .before .before .before .before .before .before .before .before .before .before .before .before .before .before .before .before .before .before .before .before .before .args in
     let r = c .before .before .before .before .before .before .before .before .before .before .before .before .before .before .before .before .before .before .before .read-number in
     c .before .before .before .before .before .before .answer-second .ensures (g .first .now) (number-held 1 (g .first .now) _ (r .result) _ (r .ensures) (c .before .before .before .before .before .before .before .before .before .before .before .before .before .before .if1 .left) (c .before .before .before .before .before .before .before .before .before .before .before .before .limb-count .ensures))

@@ -19,7 +19,7 @@ same-length : tie.Need-same-length
 same-length c = search needs
 
 returns : tie.Need-returns
-returns c = 
+returns c =
     let g = c .before .before .before .before .before .before .before .before .before .before .before .before .before .args in
     λ first second hx hy.
     refused-third first second (g .third .now) (g .out .now) _ _ (g .x) (g .y) (g .xl .now) (g .yl .now) (c .before .before .before .before .before .before .before .read-order .result) hx hy (c .before .before .before .before .before .before .before .read-order .ensures) (c .before .before .before .before .if1 .taken) (c .before .before .put-refusal .ensures)
@@ -34,7 +34,7 @@ same-length-3 : tie.Need-same-length-3
 same-length-3 c = search needs
 
 returns-2 : tie.Need-returns-2
-returns-2 c = 
+returns-2 c =
     λ first second hx hy.
     c .before .before .before .before .answer-sum .ensures first second (c .before .before .before .before .before .before .before .before .before .before .before .before .before .before .before .before .args .third .now) hx hy (c .before .before .before .before .before .before .before .before .before .before .read-order .ensures) (c .before .before .before .before .before .before .before .if1 .left)
 

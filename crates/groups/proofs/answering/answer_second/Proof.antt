@@ -25,7 +25,7 @@ same-length-2 : tie.Need-same-length-2
 same-length-2 c = search needs
 
 returns : tie.Need-returns
-returns c = 
+returns c =
     let g = c .before .before .before .before .before .before .before .before .before .before .before .before .before .before .before .before .before .args in
     λ first hx.
     refused-second first (g .second .now) (g .third .now) (g .out .now) _ _ (g .x) (g .xl .now) _ (c .before .before .before .before .before .before .before .before .before .read-number .result) hx (c .before .before .before .before .before .before .before .before .before .read-number .ensures) (c .before .before .before .before .if1 .taken) (c .before .before .put-refusal .ensures)
@@ -55,7 +55,7 @@ same-length-5 : tie.Need-same-length-5
 same-length-5 c = search needs
 
 returns-2 : tie.Need-returns-2
-returns-2 c = 
+returns-2 c =
     let g = c .before .before .before .before .before .before .before .before .before .before .before .before .before .before .before .before .before .before .before .before .before .before .before .before .args in
     let r = c .before .before .before .before .before .before .before .before .before .before .before .before .before .before .before .before .read-number in
     λ first hx.

@@ -35,7 +35,7 @@ part-put-sum-end : tie.Need-part-put-sum-end
 part-put-sum-end c = search needs
 
 put-sum-requires : tie.Need-put-sum-requires
-put-sum-requires c κs = 
+put-sum-requires c κs =
     let g = c .before .before .before .before .before .before .before .before .before .before .before .before .args in
     (c .before .before .before .before .before .before .before .before .before .before .before .before .pre .1, part-formed (g .order) (g .x) (g .y) (g .xl .now) (g .yl .now) (g .target .now) (c .before .before .before .before .before .sum .last .1 .1 .1 .1 .1 .0) (c .before .before .before .before .before .before .before .limb-count .result) (c .before .before .before .before .before .sum .result) (c .before .before .before .before .before .before .before .limb-count .ensures) (c .before .before .before .before .before .before .before .before .before .before .before .before .pre .0) (c .before .before .before .before .before .sum .ensures) (c .before .before .before .before .before .sum .kept .1 .1 .1 .1 .1 .0))
 
@@ -46,7 +46,7 @@ same-length-2 : tie.Need-same-length-2
 same-length-2 c = search needs
 
 returns : tie.Need-returns
-returns c = 
+returns c =
     let g = c .before .before .before .before .before .before .before .before .before .before .before .before .before .before .before .args in
     part-answered (g .order) (g .x) (g .y) (g .xl .now) (g .yl .now) (g .target .now) (c .before .before .before .before .before .before .before .before .sum .last .1 .1 .1 .1 .1 .0) (c .before .before .before .before .before .before .before .before .before .before .limb-count .result) (c .before .before .before .before .before .before .before .before .sum .result) (c .before .before .before .before .before .before .before .before .before .before .limb-count .ensures) (c .before .before .before .before .before .before .before .before .before .before .before .before .before .before .before .pre .0) (c .before .before .before .before .before .before .before .before .sum .ensures) (c .before .before .before .before .before .before .before .before .sum .kept .1 .1 .1 .1 .1 .0) (g .out .now) _ _ (c .before .before .put-sum .ensures)
 

@@ -30,9 +30,10 @@ returns : tie.Need-returns
 returns c =
     let g = c .before .before .before .args in
     let q = c .before .before .before .pre in
-    let far : g .at + g .n < length (g .line .now) = omega (arith, q .1, q .2) in
-    (c .read-digits .ensures ∙ field-whole (g .line .now) (g .at) (g .n) (g .at + g .n) (q .0) far (omega (arith, q .3)) refl,
-    rw (c .read-digits .ensures ∙ field-whole (g .line .now) (g .at) (g .n) (g .at + g .n) (q .0) far (omega (arith, q .3)) refl) (field-lt (g .line .now) (g .at) (g .n) (q .0) far))
+    let far : g .at + g .n < length (g .line .now) = omega (arith, q .1, q .2) in (
+      c .read-digits .ensures ∙ field-whole (g .line .now) (g .at) (g .n) (g .at + g .n) (q .0) far (omega (arith, q .3)) refl,
+      rw (c .read-digits .ensures ∙ field-whole (g .line .now) (g .at) (g .n) (g .at + g .n) (q .0) far (omega (arith, q .3)) refl) (field-lt (g .line .now) (g .at) (g .n) (q .0) far),
+    )
 
 pub field-at-spec : {M : Type 1} → statement M
 field-at-spec =

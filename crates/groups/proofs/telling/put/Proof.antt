@@ -23,10 +23,9 @@ same-length : tie.Need-same-length
 same-length c = search needs
 
 returns : tie.Need-returns
-returns c = 
+returns c =
     let g = c .before .before .before .before .before .args in
     put-more (g .out .now) (c .before .before .write-digits .last .0) (g .at) (g .n) (g .value) (c .before .before .before .before .before .pre) (c .before .before .write-digits .ensures)
-
 
 pub put-spec : {M : Type 1} → statement M
 put-spec = tie.close (tie.spec add-end sub-write-digits part-write-digits-start part-write-digits-end write-digits-requires same-length returns)

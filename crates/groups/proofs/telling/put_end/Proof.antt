@@ -16,6 +16,5 @@ same-length c = search needs
 returns : tie.Need-returns
 returns c = end-more (c .args .out .now) (c .args .at) (c .pre)
 
-
 pub put-end-spec : {M : Type 1} → statement M
 put-end-spec = tie.close (tie.spec slice-write-out add-result same-length returns)

@@ -14,6 +14,5 @@ returns-2 c = above-zero (c .before .before .args .t) (rw (toZ-ofZ (c .before .b
 returns-3 : tie.Need-returns-3
 returns-3 c = just-zero (c .before .before .args .t) (rw (toZ-ofZ (c .before .before .fits .t)) at (c .before .if1 .left)) (rw (toZ-ofZ (c .before .before .fits .t)) at (c .if2 .left))
 
-
 pub ternary-byte-spec : {M : Type 1} → statement M
 ternary-byte-spec = tie.close (tie.spec returns returns-2 returns-3)

@@ -19,7 +19,7 @@ finished : (line target : List ℕ) (i n : ℕ) → i ≡ 0 → drop i target �
 finished line target i n e h = rw (e, sub-zero n) at h
 
 abbrev Inv-loop : tie.InvT-loop
-Inv-loop line target₀ i₀ at₀ target i at = 
+Inv-loop line target₀ i₀ at₀ target i at =
     (i ≤ length target₀) × (length target ≡ length target₀) × (at + 16 * i ≡ 14 + 16 * length target₀) × (drop i target ≡ limbsIn (length target₀ - i) line)
 
 abbrev μ-loop : tie.MeasureT-loop

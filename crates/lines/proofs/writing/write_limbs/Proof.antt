@@ -31,7 +31,7 @@ finished : (part r l : List ℕ) (i : ℕ) → i ≡ 0 → length r ≡ 16 * len
 finished part r l i e n h = (rw e at h) ∙ onto-all (limbDigits l) r (rw (length-limb-digits l) (omega arith))
 
 abbrev Inv-loop : tie.InvT-loop
-Inv-loop limbs part₀ i₀ at₀ part i at = 
+Inv-loop limbs part₀ i₀ at₀ part i at =
     (i ≤ length limbs) × (length part ≡ length part₀) × (at + 16 * i ≡ 16 * length limbs) × (part ≡ onto (limbDigits (drop i limbs)) part₀)
 
 abbrev μ-loop : tie.MeasureT-loop

@@ -19,12 +19,13 @@ returns c = (omega arith, λ buffer e. refl)
 returns-2 : tie.Need-returns-2
 returns-2 c =
     let n = c .before .before .args .n in
-    let room = c .before .line-room .result in
-    (omega arith,
-    λ buffer e.
-    let small : length buffer ≤ room = omega arith in
-    let smaller : length buffer ≤ n = omega arith in
-    take-all room buffer small ∙ sym (take-all n buffer smaller))
+    let room = c .before .line-room .result in (
+      omega arith,
+      λ buffer e.
+          let small : length buffer ≤ room = omega arith in
+          let smaller : length buffer ≤ n = omega arith in
+          take-all room buffer small ∙ sym (take-all n buffer smaller),
+    )
 
 pub at-most-room-spec : {M : Type 1} → statement M
 at-most-room-spec = tie.close (tie.spec line-room-requires returns returns-2)

@@ -20,15 +20,17 @@ same-length c = search needs
 
 returns : tie.Need-returns
 returns c =
-    let g = c .before .args in
-    (kept (g .line .now) (g .held) (g .b) (c .before .pre .1) (c .if1 .taken),
-    grown (g .line .now) (g .held) (g .b) (c .before .pre .1) (c .if1 .taken))
+    let g = c .before .args in (
+      kept (g .line .now) (g .held) (g .b) (c .before .pre .1) (c .if1 .taken),
+      grown (g .line .now) (g .held) (g .b) (c .before .pre .1) (c .if1 .taken),
+    )
 
 returns-2 : tie.Need-returns-2
 returns-2 c =
-    let g = c .before .args in
-    (full (g .line .now) (g .held) (g .b) (c .before .pre .1) (c .if1 .left),
-    stays (g .line .now) (g .held) (g .b) (c .before .pre .1) (c .before .pre .0))
+    let g = c .before .args in (
+      full (g .line .now) (g .held) (g .b) (c .before .pre .1) (c .if1 .left),
+      stays (g .line .now) (g .held) (g .b) (c .before .pre .1) (c .before .pre .0),
+    )
 
 pub keep-spec : {M : Type 1} → statement M
 keep-spec = tie.close (tie.spec slice-write-line add-result same-length returns returns-2)

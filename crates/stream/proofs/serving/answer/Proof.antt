@@ -42,7 +42,7 @@ same-length : tie.Need-same-length
 same-length c = search needs
 
 returns : tie.Need-returns
-returns c = 
+returns c =
     let h = c .before .before .before .before .before .before .before .before .before .before .before .args .held in
     rw (whole-part (h .first), whole-part (h .second), whole-part (h .third)) at (c .before .before .answer .ensures)
 

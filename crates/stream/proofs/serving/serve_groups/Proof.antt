@@ -26,7 +26,7 @@ longest-answer-requires : tie.Need-longest-answer-requires Inv-loop μ-loop
 longest-answer-requires c κs = search needs
 
 loop-holds : tie.Need-loop-holds Inv-loop μ-loop
-loop-holds c = 
+loop-holds c =
     let g = c .before .before .before .before .before .before .args in
     serving-begins (c .longest-answer .result) (record { held = g .held; first = g .first .now; second = g .second .now; third = g .third .now }) (g .bytes .now) (g .out .now) (c .longest-answer .ensures) (c .before .before .before .before .before .before .pre)
 
@@ -55,7 +55,7 @@ same-length-4 : tie.Need-same-length-4 Inv-loop μ-loop
 same-length-4 c = c .before .before .loop .inv .same
 
 returns : tie.Need-returns Inv-loop μ-loop
-returns c = 
+returns c =
     let g = c .before .before .before .before .before .before .before .before .before .args in
     let l = c .before .before .loop in
     stops-full (c .before .before .before .longest-answer .result) (record { held = g .held; first = g .first .now; second = g .second .now; third = g .third .now }) (g .bytes .now) (g .out .now) (record { held = l .h; first = l .first; second = l .second; third = l .third }) (l .out) (l .taken) (l .told) (l .inv) (c .before .loop-test .taken) (c .if1 .taken)
@@ -73,7 +73,7 @@ cut-requires : tie.Need-cut-requires Inv-loop μ-loop
 cut-requires c κs = c .before .before .before .before .before .before .loop .inv .rooms
 
 add-taken : tie.Need-add-taken Inv-loop μ-loop
-add-taken c = 
+add-taken c =
     let g = c .before .before .before .before .before .before .before .before .before .before .before .before .before .before .before .before .before .before .before .before .before .before .args in
     let l = c .before .before .before .before .before .before .before .before .before .before .before .before .before .before .before .loop in
     let k = c .before .before .before .before .before .before .before .before .cut in
@@ -105,7 +105,7 @@ same-length-8 : tie.Need-same-length-8 Inv-loop μ-loop
 same-length-8 c = c .before .before .before .before .before .before .before .before .before .before .before .before .before .before .before .before .before .loop .inv .same
 
 returns-2 : tie.Need-returns-2 Inv-loop μ-loop
-returns-2 c = 
+returns-2 c =
     let g = c .before .before .before .before .before .before .before .before .before .before .before .before .before .before .before .before .before .before .before .before .before .before .before .before .args in
     let l = c .before .before .before .before .before .before .before .before .before .before .before .before .before .before .before .before .before .loop in
     let k = c .before .before .before .before .before .before .before .before .before .before .cut in
@@ -121,7 +121,7 @@ part-answer-end : tie.Need-part-answer-end Inv-loop μ-loop
 part-answer-end c = search needs
 
 answer-requires : tie.Need-answer-requires Inv-loop μ-loop
-answer-requires c κs = 
+answer-requires c κs =
     let g = c .before .before .before .before .before .before .before .before .before .before .before .before .before .before .before .before .before .before .before .before .before .before .before .before .before .before .before .before .args in
     let l = c .before .before .before .before .before .before .before .before .before .before .before .before .before .before .before .before .before .before .before .before .before .loop in
     let k = c .before .before .before .before .before .before .before .before .before .before .before .before .before .before .cut in
@@ -148,7 +148,7 @@ loop-less c =
     omega (arith, f, c .before .before .before .before .before .before .before .before .before .before .before .before .before .before .before .before .before .before .before .before .before .before .before .before .loop-test .taken)
 
 loop-again : tie.Need-loop-again Inv-loop μ-loop
-loop-again c = 
+loop-again c =
     let g = c .before .before .before .before .before .before .before .before .before .before .before .before .before .before .before .before .before .before .before .before .before .before .before .before .before .before .before .before .before .before .before .before .args in
     let l = c .before .before .before .before .before .before .before .before .before .before .before .before .before .before .before .before .before .before .before .before .before .before .before .before .before .loop in
     let k = c .before .before .before .before .before .before .before .before .before .before .before .before .before .before .before .before .before .before .cut in
@@ -177,7 +177,7 @@ same-length-12 : tie.Need-same-length-12 Inv-loop μ-loop
 same-length-12 c = c .before .loop .inv .same
 
 returns-3 : tie.Need-returns-3 Inv-loop μ-loop
-returns-3 c = 
+returns-3 c =
     let g = c .before .before .before .before .before .before .before .before .args in
     let l = c .before .loop in
     stops-ended (c .before .before .longest-answer .result) (record { held = g .held; first = g .first .now; second = g .second .now; third = g .third .now }) (g .bytes .now) (g .out .now) (record { held = l .h; first = l .first; second = l .second; third = l .third }) (l .out) (l .taken) (l .told) (l .inv) (c .loop-test .left)
