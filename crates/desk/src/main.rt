@@ -2,12 +2,13 @@
 use stream::Held;
 use stream::LINE_ROOM;
 
-// Prints the answers of a piece of the input, and stops where nothing can be written.
-struct Going {
+// What is held, and whether nothing can be written any more.
+struct Standing {
     held: Held,
-    stopped: bool,
+    closed: bool,
 }
 
+// Serves a piece of the input, and writes what is printed whenever there may be no room for more.
 fn serve_piece(
     held: Held,
     piece: &[u8],
@@ -15,51 +16,53 @@ fn serve_piece(
     second: &mut [u8],
     third: &mut [u8],
     out: &mut [u8],
-) -> Going {
+) -> Standing {
     let mut h = held;
     let mut at: usize = 0;
     while at < piece.len() {
         let s = stream::serve(h, &piece[at..], first, second, third, out);
-        if s.taken == 0 {
-            return Going {
-                held: h,
-                stopped: true,
-            };
-        }
         let told = s.told;
         if !io::write_all(1, &out[0..told]) {
-            return Going {
+            return Standing {
                 held: h,
-                stopped: true,
+                closed: true,
+            };
+        }
+        if s.taken == 0 {
+            return Standing {
+                held: h,
+                closed: true,
             };
         }
         h = s.held;
         at += s.taken;
     }
-    Going {
+    Standing {
         held: h,
-        stopped: false,
+        closed: false,
     }
 }
 
+// The end of the input.
+fn finish(held: Held, first: &[u8], second: &[u8], third: &[u8], out: &mut [u8]) {
+    let told = stream::finish(held, first, second, third, out);
+    io::write_all(1, &out[0..told]);
+}
+
+// Piece after piece, to the end of the input or to the first write that fails.
 fn run(piece: &mut [u8], first: &mut [u8], second: &mut [u8], third: &mut [u8], out: &mut [u8]) {
-    let mut g = Going {
-        held: stream::start(),
-        stopped: false,
-    };
+    let mut held = stream::start();
     let mut turns: u64 = 18446744073709551615;
     while 0 < turns {
         let got = io::read_full(0, piece);
         if got == 0 {
-            let told = stream::finish(g.held, first, second, third, out);
-            io::write_all(1, &out[0..told]);
+            return finish(held, first, second, third, out);
+        }
+        let d = serve_piece(held, &piece[0..got], first, second, third, out);
+        if d.closed {
             return;
         }
-        let held = g.held;
-        g = serve_piece(held, &piece[0..got], first, second, third, out);
-        if g.stopped {
-            return;
-        }
+        held = d.held;
         turns -= 1;
     }
 }

@@ -127,25 +127,26 @@ serving-begins most s bytes entry e r =
 
 module _ (most : ℕ) (start : State) (bytes entry : List ℕ) (s : State) (out : List ℕ) (count told : ℕ) (v : Serving most start bytes entry s out count told) where
   -- nothing more is taken, or a part of a group
-  stops : (n : ℕ) (t : State) (r : Served) → Serves (length entry - told) s (drop count bytes) n [] t → r ≡ record { held = t .held; taken = count + n; told = told } → ServedBy start bytes t entry out r
-  stops n t r k e = record {
-    unready = λ f. absurd (true-false (v .ready) f);
-    served = λ f. rw (e, ← (append-nil (take told out))) (v .goes n [] t k);
-    told = λ f. rw e (v .told-is);
+  stops : (n : ℕ) (t : State) (r : Served) → Serves (length entry - told) s (drop count bytes) n [] t → r ≡ record { held = t .held; taken = count + n; told = told } → count + n ≤ length bytes → ServedBy start bytes t entry out r
+  stops n t r k e f = record {
+    unready = λ z. absurd (true-false (v .ready) z);
+    served = λ z. rw (e, ← (append-nil (take told out))) (v .goes n [] t k);
+    told = λ z. rw e (v .told-is);
     fits = rw e (v .fits);
+    far = rw e f;
   }
 
   pub stops-full : count < length bytes → length out - told < most → ServedBy start bytes s entry out (record { held = s .held; taken = count; told = told })
   stops-full m f =
       let z : count + 0 ≡ count = omega arith in
       let l : 0 < length (drop count bytes) = simp length-drop (omega arith) in
-      stops 0 s _ (full l (omega (arith, v .same, v .most-is))) (ap (λ (i : ℕ). record { held = s .held; taken = i; told = told }) (sym z))
+      stops 0 s _ (full l (omega (arith, v .same, v .most-is))) (ap (λ (i : ℕ). record { held = s .held; taken = i; told = told }) (sym z)) (omega (arith, v .far))
 
   pub stops-ended : length bytes ≤ count → ServedBy start bytes s entry out (record { held = s .held; taken = count; told = told })
   stops-ended m =
       let z : count + 0 ≡ count = omega arith in
       let l : drop count bytes ≡ [] = drop-of-length-le bytes m in
-      stops 0 s _ (rw l ended) (ap (λ (i : ℕ). record { held = s .held; taken = i; told = told }) (sym z))
+      stops 0 s _ (rw l ended) (ap (λ (i : ℕ). record { held = s .held; taken = i; told = told }) (sym z)) (omega (arith, v .far))
 
   module _ (more : count < length bytes) (room : most ≤ length out - told) (p : Progress) (x y z : List ℕ) (c : Cuts (s .held) (take (length bytes - count) (drop count bytes)) (s .first) (s .second) (s .third) x y z p) where
     h : Group
@@ -188,13 +189,17 @@ module _ (most : ℕ) (start : State) (bytes entry : List ℕ) (s : State) (out 
     unfolding keeping
     kept k = simp (first-is, second-is, third-is)
 
+    -- bytes are taken, and no more than there are
+    pub taken-far : count + p .taken ≤ length bytes
+    taken-far = omega (arith, taken-is, taken-le (groupOf s) (drop count bytes), length-drop count bytes)
+
     pub waits-served : p .held .lines < 3 → ServedBy start bytes (record { held = p .held; first = x; second = y; third = z }) entry out (record { held = p .held; taken = count + p .taken; told = told })
     unfolding isWhole h
     waits-served f =
         let w : isWhole h ≡ false = lt-leb 3 (h .lines) (omega (arith, lines-are)) in
         let k = waits {room = length entry - told} {s = s} {bytes = drop count bytes} some wide w in
         let e : keeping (heldOf h) h s ≡ record { held = p .held; first = x; second = y; third = z } = ap (λ (i : Held). keeping i h s) (sym held-is) ∙ sym (kept (p .held)) in
-        stops (p .taken) (record { held = p .held; first = x; second = y; third = z }) _ (rw (taken-is, ← e) k) refl
+        stops (p .taken) (record { held = p .held; first = x; second = y; third = z }) _ (rw (taken-is, ← e) k) refl taken-far
 
     first-taken : take (p .held .first) x ≡ h .first
     unfolding heldOf onto
@@ -292,10 +297,6 @@ module _ (most : ℕ) (start : State) (bytes entry : List ℕ) (s : State) (out 
         rooms = rooms;
       }
 
-    -- bytes are taken, and no more than there are
-    pub taken-far : count + p .taken ≤ length bytes
-    taken-far = omega (arith, taken-is, taken-le (groupOf s) (drop count bytes), length-drop count bytes)
-
     group-few : groupOf s .lines < 3
     unfolding groupOf groupIn
     group-few = v .few
@@ -317,6 +318,7 @@ serve-unready s bytes out r = record {
   served = λ f. absurd (true-false f r);
   told = λ f. absurd (true-false f r);
   fits = omega arith;
+  far = omega arith;
 }
 
 -- ---- the end of the input

@@ -73,6 +73,7 @@ pub record ServedBy (s : State) (bytes : List ℕ) (t : State) (entry exit : Lis
   pub served : isReady s entry ≡ true → Serves (length entry) s bytes (r .taken) (take (r .told) exit) t
   pub told : isReady s entry ≡ true → exit ≡ onto (take (r .told) exit) entry
   pub fits : r .told ≤ length exit
+  pub far : r .taken ≤ length bytes
 
 -- `finish`: the end of the input
 pub record Finished (s : State) (entry exit : List ℕ) (count : ℕ) : Type 0 where
