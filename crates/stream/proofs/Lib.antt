@@ -5,3 +5,4 @@ pub mod Resuming
 pub mod Cuts
 pub mod Printing
 pub mod Pieces
+pub mod Agree
