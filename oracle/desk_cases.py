@@ -86,6 +86,24 @@ def long_input():
     return b"".join(groups) + ONE_CASE[0] + ONE_CASE[1]
 
 
+def ordered_faults():
+    """Two faults in one group: the earlier line's is named, and within a line the earlier check's."""
+    good, bad_bytes = ONE_CASE[0], ONE_CASE[0].replace(b"8", b"G")
+    short, kind, wide = b"00\n", b"04" + ONE_CASE[0][2:], b"001001" + ONE_CASE[0][6:]
+    firsts = (good, bad_bytes, short, kind, wide, ONE_CASE[0].upper(), ONE_CASE[0][:-1] + b"\r\n", b"0" * 2000 + b"\n")
+    thirds = (ONE_CASE[2], b"\n", b"0000040g\n", b"02000404\n", b"00000404\n", b"00000100\n", b"01100100\n", b"000004000\n", b"00000400\r\n")
+    for first in firsts:
+        for second in firsts:
+            for third in thirds:
+                yield first + second + third
+
+
+def gate_input():
+    """The groups that the gate runs: more sums than the long input, every pair of faults, cut at its third line."""
+    groups = list(sums_as_groups(3)) + list(faulty_groups()) + list(ordered_faults()) + list(long_lines())
+    return b"".join(groups) + ONE_CASE[0] + ONE_CASE[1]
+
+
 def streams():
     """Short inputs: empty, cut at every byte, with CR, with empty lines."""
     whole = b"".join(ONE_CASE)

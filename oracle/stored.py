@@ -1,15 +1,17 @@
-"""The questions and answers that the test programs have beside their source.
+"""The questions and answers that the programs have beside their source.
 
     python3 oracle/stored.py           compares them with what is made today, byte for byte
     python3 oracle/stored.py write     makes them anew
 
-A folder crates/tests_.. that is not listed here is reported.
+A folder crates/tests_.. that is not listed here is reported. The desk program has one whole input.
 """
 
 import os
 import sys
 from itertools import chain
 
+import desk_cases
+from desk import desk
 from marked_words import conversation
 from vectors import comparisons, doubles, gate, lines, marked, pair_of
 
@@ -51,9 +53,18 @@ def compared(name, path, made):
     return False
 
 
+def made_for(name):
+    """A program's input, its output, and how many cases that is."""
+    if name == "desk":
+        given = desk_cases.gate_input()
+        return given, desk(given), (given.count(b"\n") + 2) // 3
+    given, told, refusals = pair_of(PROGRAMS[name]())
+    return given, told, refusals.total()
+
+
 def handle(name, write):
     """Writes or compares one program's two files; whether all is well."""
-    given, told, refusals = pair_of(PROGRAMS[name]())
+    given, told, cases = made_for(name)
     if len(told) > MOST_OUTPUT:
         print(f"{name}: {len(told)} bytes of output are too many")
         return False
@@ -64,17 +75,19 @@ def handle(name, write):
                 file.write(text)
     well = all([compared(name, path, text) for path, text in files])
     if well:
-        print(f"{name}: {refusals.total()} cases, {len(given)} and {len(told)} bytes, as made today")
+        print(f"{name}: {cases} cases, {len(given)} and {len(told)} bytes, as made today")
     return well
 
 
 def main(write):
     well = True
     for name in sorted(os.listdir(CRATES)):
-        if name.startswith("tests_"):
-            if name not in PROGRAMS:
+        if name == "desk" or name.startswith("tests_"):
+            if name not in PROGRAMS and name != "desk":
                 print(f"{name}: nothing makes its files")
-            well &= name in PROGRAMS and handle(name, write)
+                well = False
+            else:
+                well &= handle(name, write)
     return 0 if well else 1
 
 

@@ -1,0 +1,5 @@
+pub mod Tellings
+pub mod Numbers
+pub mod Orders
+pub mod Formed
+pub mod Groups

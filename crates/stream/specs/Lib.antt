@@ -1,0 +1,4 @@
+pub mod Lines
+pub mod Group
+pub mod Desk
+pub mod Serving
