@@ -99,8 +99,8 @@ def ordered_faults():
 
 
 def gate_input():
-    """The groups that the gate runs: more sums than the long input, every pair of faults, cut at its third line."""
-    groups = list(sums_as_groups(3)) + list(faulty_groups()) + list(ordered_faults()) + list(long_lines())
+    """The groups that the gate runs: document 01's case, more sums than the long input, every pair of faults, cut at its third line."""
+    groups = [b"".join(ONE_CASE)] + list(sums_as_groups(3)) + list(faulty_groups()) + list(ordered_faults()) + list(long_lines())
     return b"".join(groups) + ONE_CASE[0] + ONE_CASE[1]
 
 
