@@ -236,10 +236,10 @@ module _ (w : Window) (target : List ℕ) (some : 0 < length target) where
   abbrev B : ℕ
   B = 2 ^ 64
 
-  top-power : 2 ^ (64 * length target) ≡ 2 ^ 64 * 2 ^ (64 * (length target - 1))
+  pub top-power : 2 ^ (64 * length target) ≡ 2 ^ 64 * 2 ^ (64 * (length target - 1))
   top-power = ap (λ (n : ℕ). 2 ^ n) (omega arith) ∙ pow-add 2 64 (64 * (length target - 1))
 
-  head-is : w .filled ≡ length target → headOf w target ≡ bit (w .carry) * 2 ^ (64 * length target) + valueOf target
+  pub head-is : w .filled ≡ length target → headOf w target ≡ bit (w .carry) * 2 ^ (64 * length target) + valueOf target
   unfolding headOf
   head-is f = let z : length target - length target ≡ 0 = omega arith in rw (f, z) refl
 

@@ -14,3 +14,5 @@ pub mod RegularEnd
 pub mod RegularReport
 pub mod RegularLevel
 pub mod AtOnce
+pub mod Inside
+pub mod AtGlance

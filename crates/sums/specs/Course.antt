@@ -1,9 +1,11 @@
 -- The course of a walk, and what is known where it stops. Definitions only.
-use Prim.Native.Nat.{ℕ, suc, _+_, _-_, _*_, _^_, _≤_, _<_}
+use Prim.Native.Nat.{ℕ, suc, _+_, _-_, _*_, _%_, _^_, _≤_, _<_}
 use mathlib.Core.Path.{_≡_}
 use mathlib.Core.Bool.{Bool, true, false, cond}
 use mathlib.Core.List.{List}
 use lib.Dec.{ltb}
+use lib.ListN.{length}
+use lib.Ieee.{size}
 use Rattle.limb.specs.Carry.{bit}
 use Rattle.numbers.specs.Limits.{leastExponent, mostExponent}
 use Rattle.numbers.specs.Operand.{Operand}
@@ -132,6 +134,18 @@ pub record Sighted (pair : Pair) (first from n : ℕ) : Type 0 where
   pub top : pair .top ≤ 2 ^ 42
   pub alone : pair .second ≡ 0 → pair .same ≡ true
   pub sum : pair .same ≡ true → from ≡ 0
+
+-- a target full to the last limb, and nothing read below it
+pub record Full (w : Window) (target : List ℕ) : Type 0 where
+  pub fits : Fits w target
+  pub filled : w .filled ≡ length target
+  pub unguarded : w .guarded ≡ false
+
+-- D has more than p digits, and what is below them lies inside a half, with a unit to spare above
+pub record Inside (p D : ℕ) : Type 0 where
+  pub longer : p < size D
+  pub some : 1 ≤ D % 2 ^ (size D - p - 1)
+  pub below : D % 2 ^ (size D - p - 1) + 1 < 2 ^ (size D - p - 1)
 
 -- what the tests ask of a pair and a window after k columns
 pub record Measured (pair : Pair) (w : Window) (target : List ℕ) (k : ℕ) : Type 0 where

@@ -22,6 +22,7 @@ ghost use Rattle.sums.specs.Summed.{Reported, sumOf};
 ghost use Rattle.sums.specs.Ready.{Room};
 ghost use Rattle.sums.specs.Course.{Course, Stopped};
 ghost use Rattle.sums.specs.Finishing.{Cleared, Ending, Left, Signed, HoleSays, usedOf, Level, Differs};
+use crate::front::walk_first;
 use crate::going::Verdict;
 use crate::going::Walked;
 use crate::going::walk_down;
@@ -87,6 +88,42 @@ fn fixed(
         w.guard,
         more | deep,
         unit,
+        p,
+        mode,
+    )
+}
+
+// The same, at once where the target is full and has its first digit.
+fn fixed_full(
+    mode: u8,
+    negative: bool,
+    p: u64,
+    top: u64,
+    w: Window,
+    more: bool,
+    target: &mut [u64],
+) -> Placed
+    requires { ⌜ Ending p top w (now target) ⌝ }
+    ensures { λ r. ⌜ ((k D : ℕ) → Shows w (now (target .entry)) k D → 0 < D → 64 * k < top → (more ≡ true → enough (way (modeOf mode) negative) p D ≡ true) → Left p (rounded (way (modeOf mode) negative) p (top - 64 * k - 1) negative (2 * D + bit more)) (now (target .exit)) r) ⌝ }
+{
+    let n = target.len();
+    if w.filled < n {
+        return fixed(mode, negative, p, top, w, more, target);
+    }
+    let led = w.carry | (0 < target[n - 1]);
+    if !led {
+        return fixed(mode, negative, p, top, w, more, target);
+    }
+    let weight = top - 64 * (w.skipped + n as u64 + 1);
+    let tail = w.tail;
+    let deep = holds_more(tail);
+    place::round_fit(
+        negative,
+        w.carry,
+        target,
+        w.guard,
+        more | deep,
+        weight,
         p,
         mode,
     )
@@ -186,6 +223,28 @@ fn finish(
         Verdict::Fixed(more) => fixed(mode, negative, p, pair.top, w, more, target),
         Verdict::InHole => hole(mode, negative, p, pair, w, target),
         Verdict::Refused(rule) => refuse(rule, target),
+    }
+}
+
+// The same, at once where it ended in a full target.
+fn finish_full(
+    mode: u8,
+    negative: bool,
+    p: u64,
+    pair: Pair,
+    walked: Walked,
+    target: &mut [u64],
+) -> Placed
+    requires { ⌜ Ending p (pair .top) (walked .window) (now target) ⌝ }
+    ensures { λ r. ⌜ ((x y : Operand) (from : ℕ) → Course x y from → pair ≡ pairOf x y → negative ≡ x .negative → Stopped (modeOf mode) p x y walked (now (target .entry)) → Left p (add (modeOf mode) p x y) (now (target .exit)) r) ⌝ }
+{
+    let w = walked.window;
+    let verdict = walked.verdict;
+    match verdict {
+        Verdict::Open => finish(mode, negative, p, pair, walked, target),
+        Verdict::Fixed(more) => fixed_full(mode, negative, p, pair.top, w, more, target),
+        Verdict::InHole => finish(mode, negative, p, pair, walked, target),
+        Verdict::Refused(_) => finish(mode, negative, p, pair, walked, target),
     }
 }
 
@@ -295,6 +354,36 @@ fn ordered(
     )
 }
 
+// Two regular numbers in order, the first larger from the first column on where their signs are unlike.
+fn ordered_first(
+    mode: u8,
+    x: Number,
+    xl: &[u64],
+    y: Number,
+    yl: &[u64],
+    p: u64,
+    target: &mut [u64],
+) -> Sum
+    requires { ⌜ (operandOf y (now yl) .isZero ≡ false) × Course (operandOf x (now xl)) (operandOf y (now yl)) 0 × Room p (length (now target)) ⌝ }
+    ensures { λ r. ⌜ Reported plus (modeOf mode) p (operandOf x (now (xl .entry))) (operandOf y (now (yl .entry))) (now (target .exit)) r ⌝ }
+{
+    let negative = x.negative;
+    let top = checks::counted_exponent(x.exponent);
+    let gap = top - checks::counted_exponent(y.exponent);
+    let pair = Pair {
+        same: negative == y.negative,
+        first: x.precision,
+        second: y.precision,
+        gap: gap,
+        top: top,
+    };
+    let walked = walk_first(settle::way_of(mode, negative), p, pair, xl, yl, target);
+    let k = walked.columns;
+    let placed = finish_full(mode, negative, p, pair, walked, target);
+    let lower = used(k, gap, yl.len());
+    answered(placed, negative, p, k, used(k, 0, xl.len()), lower)
+}
+
 // No column in which two operands differ, of so many; or the first, where the first is larger, or the second.
 pub enum Differ {
     Never(u64),
@@ -362,13 +451,13 @@ pub fn both(
     let a = checks::counted_exponent(x.exponent);
     let b = checks::counted_exponent(y.exponent);
     if b < a {
-        return ordered(mode, x, xl, y, yl, p, 0, target);
+        return ordered_first(mode, x, xl, y, yl, p, target);
     }
     if a < b {
-        return exchanged(ordered(mode, y, yl, x, xl, p, 0, target));
+        return exchanged(ordered_first(mode, y, yl, x, xl, p, target));
     }
     if x.negative == y.negative {
-        return ordered(mode, x, xl, y, yl, p, 0, target);
+        return ordered_first(mode, x, xl, y, yl, p, target);
     }
     unlike(mode, x, xl, y, yl, p, target)
 }

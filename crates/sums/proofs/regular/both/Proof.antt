@@ -12,8 +12,8 @@ counted-exponent-requires c κs = search needs
 counted-exponent-requires-2 : tie.Need-counted-exponent-requires-2
 counted-exponent-requires-2 c κs = search needs
 
-ordered-requires : tie.Need-ordered-requires
-ordered-requires c κs =
+ordered-first-requires : tie.Need-ordered-first-requires
+ordered-first-requires c κs =
     let b = c .before .before .before .before .before .before .before .before .before in
     let a = b .args in
     let first = rw (toZ-ofZ (record { sfits = c .before .before .before .before .before .struct-told .given .1 .1 .1 .0 .1 })) at (c .before .before .before .before .counted-exponent .ensures) in
@@ -24,10 +24,10 @@ same-length : tie.Need-same-length
 same-length c = search needs
 
 returns : tie.Need-returns
-returns c = c .before .before .ordered .ensures
+returns c = c .before .before .ordered-first .ensures
 
-ordered-requires-2 : tie.Need-ordered-requires-2
-ordered-requires-2 c κs =
+ordered-first-requires-2 : tie.Need-ordered-first-requires-2
+ordered-first-requires-2 c κs =
     let b = c .before .before .before .before .before .before .before .before .before .before in
     let a = b .args in
     let first = rw (toZ-ofZ (record { sfits = c .before .before .before .before .before .before .struct-told .given .1 .1 .1 .0 .1 })) at (c .before .before .before .before .before .counted-exponent .ensures) in
@@ -44,10 +44,10 @@ returns-2 : tie.Need-returns-2
 returns-2 c =
     let b = c .before .before .before .before .before .before .before .before .before .before .before .before .before .before in
     let a = b .args in
-    zero-first (a .mode) (a .p) _ _ _ _ _ _ (b .pre .5) (b .pre .4) (c .exchanged .ensures) (c .before .before .before .ordered2 .ensures)
+    zero-first (a .mode) (a .p) _ _ _ _ _ _ (b .pre .5) (b .pre .4) (c .exchanged .ensures) (c .before .before .before .ordered-first2 .ensures)
 
-ordered-requires-3 : tie.Need-ordered-requires-3
-ordered-requires-3 c κs =
+ordered-first-requires-3 : tie.Need-ordered-first-requires-3
+ordered-first-requires-3 c κs =
     let b = c .before .before .before .before .before .before .before .before .before .before .before .before .before in
     let a = b .args in
     let first = rw (toZ-ofZ (record { sfits = c .before .before .before .before .before .before .before .before .before .struct-told .given .1 .1 .1 .0 .1 })) at (c .before .before .before .before .before .before .before .before .counted-exponent .ensures) in
@@ -58,7 +58,7 @@ same-length-3 : tie.Need-same-length-3
 same-length-3 c = search needs
 
 returns-3 : tie.Need-returns-3
-returns-3 c = c .before .before .ordered3 .ensures
+returns-3 c = c .before .before .ordered-first3 .ensures
 
 unlike-requires : tie.Need-unlike-requires
 unlike-requires c κs =
@@ -80,14 +80,14 @@ both-spec =
     (tie.spec
     counted-exponent-requires
     counted-exponent-requires-2
-    ordered-requires
+    ordered-first-requires
     same-length
     returns
-    ordered-requires-2
+    ordered-first-requires-2
     exchanged-requires
     same-length-2
     returns-2
-    ordered-requires-3
+    ordered-first-requires-3
     same-length-3
     returns-3
     unlike-requires
