@@ -1,7 +1,6 @@
 // One input, split in four ways, and whether the desk prints the same for each.
 use crate::pieces::run_split;
 use groups::LONGEST_ANSWER;
-ghost use Prim.Native.Nat.{_≤_};
 
 fn print(text: &[u8]) {
     io::write_all(1, text);
@@ -34,19 +33,18 @@ fn expected(size: usize, text: &[u8], whole: &[u8]) -> bool {
 }
 
 // Pieces of a size, with room for one answer at a time.
-fn agrees(bytes: &[u8], size: usize, whole: &[u8]) -> bool {
+fn agrees(bytes: &[u8], size: usize, whole: &[u8], part: &mut [u8; 4096]) -> bool {
     let mut out = [0u8; LONGEST_ANSWER];
-    let mut text = io::buffer();
-    let n = run_split(bytes, size, &mut out, &mut text);
-    let told = &text[..];
-    expected(size, &told[0..n], whole)
+    let n = run_split(bytes, size, &mut out, part);
+    let text = &part[..];
+    expected(size, &text[0..n], whole)
 }
 
-fn print_told(bytes: &[u8], whole: &[u8]) {
+fn print_told(bytes: &[u8], whole: &[u8], part: &mut [u8; 4096]) {
     print(whole);
-    let a = agrees(bytes, 1, whole);
-    let b = agrees(bytes, 7, whole);
-    let c = agrees(bytes, stream::LINE_ROOM, whole);
+    let a = agrees(bytes, 1, whole, part);
+    let b = agrees(bytes, 7, whole, part);
+    let c = agrees(bytes, stream::LINE_ROOM, whole, part);
     if a & b & c {
         print(b" agree");
     }
@@ -54,10 +52,9 @@ fn print_told(bytes: &[u8], whole: &[u8]) {
 }
 
 // The whole input at once first, with room for several answers.
-pub(crate) fn run_input(bytes: &[u8]) {
+pub(crate) fn run_input(bytes: &[u8], whole: &mut [u8; 4096], part: &mut [u8; 4096]) {
     let mut out = io::buffer();
-    let mut text = io::buffer();
-    let n = run_split(bytes, bytes.len(), &mut out, &mut text);
-    let told = &text[..];
-    print_told(bytes, &told[0..n]);
+    let n = run_split(bytes, bytes.len(), &mut out, whole);
+    let text = &whole[..];
+    print_told(bytes, &text[0..n], part);
 }

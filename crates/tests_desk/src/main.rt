@@ -37,7 +37,9 @@ fn run_line(line: &[u8; LINE_DIGITS], held: usize, bytes: &mut [u8; INPUT_ROOM])
     let digits = &line[..];
     let n = bytes_at(&digits[0..held], bytes);
     let given = &bytes[..];
-    agreeing::run_input(&given[0..n]);
+    let mut whole = io::buffer();
+    let mut part = io::buffer();
+    agreeing::run_input(&given[0..n], &mut whole, &mut part);
 }
 
 // One byte more of a line, while there is room.

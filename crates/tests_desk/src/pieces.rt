@@ -48,7 +48,38 @@ fn finish(
     put_bytes(text, place, &out[0..told])
 }
 
-// Piece after piece, and the end; how long the text is. Ends early where nothing of a piece is taken.
+// What is held after a piece, how many of its bytes were taken, and how long the text is.
+struct Standing {
+    held: Held,
+    taken: usize,
+    place: usize,
+}
+
+fn serve_piece(
+    held: Held,
+    piece: &[u8],
+    first: &mut [u8],
+    second: &mut [u8],
+    third: &mut [u8],
+    out: &mut [u8],
+    text: &mut [u8; 4096],
+    place: usize,
+) -> Standing
+    requires { ⌜ place ≤ 4096 ⌝ }
+    ensures { λ r. ⌜ (r .taken ≤ length (now (piece .entry))) × (r .place ≤ 4096) ⌝ }
+{
+    let s = stream::serve(held, piece, first, second, third, out);
+    let now_held = s.held;
+    let told = s.told;
+    let end = put_bytes(text, place, &out[0..told]);
+    Standing {
+        held: now_held,
+        taken: s.taken,
+        place: end,
+    }
+}
+
+// Piece after piece, and the end; how long the text is. Stops where nothing of a piece is taken.
 fn serve_pieces(
     bytes: &[u8],
     size: usize,
@@ -65,13 +96,21 @@ fn serve_pieces(
     let mut place: usize = 0;
     while at < bytes.len() {
         let end = piece_end(at, size, bytes.len());
-        let s = stream::serve(held, &bytes[at..end], first, second, third, out);
-        let told = s.told;
-        place = put_bytes(text, place, &out[0..told]);
+        let s = serve_piece(
+            held,
+            &bytes[at..end],
+            first,
+            second,
+            third,
+            out,
+            text,
+            place,
+        );
+        held = s.held;
+        place = s.place;
         if s.taken == 0 {
             return place;
         }
-        held = s.held;
         at += s.taken;
     }
     finish(held, first, second, third, out, text, place)
