@@ -69,11 +69,11 @@ fn serve_piece(
     ensures { λ r. ⌜ (r .taken ≤ length (now (piece .entry))) × (r .place ≤ 4096) ⌝ }
 {
     let s = stream::serve(held, piece, first, second, third, out);
-    let now_held = s.held;
+    let after = s.held;
     let told = s.told;
     let end = put_bytes(text, place, &out[0..told]);
     Standing {
-        held: now_held,
+        held: after,
         taken: s.taken,
         place: end,
     }
