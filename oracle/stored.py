@@ -13,12 +13,20 @@ from itertools import chain
 import desk_cases
 from desk import desk
 from marked_words import conversation
-from vectors import comparisons, doubles, gate, lines, marked, pair_of
+from vectors import comparisons, doubles, gate, lines, marked, pair_of, streams
 
 CRATES = os.path.join(os.path.dirname(os.path.dirname(os.path.abspath(__file__))), "crates")
 
+
+def agreeing_streams():
+    """Inputs of the desk; `tests_desk` splits each in several ways, and says whether these agree."""
+    for given, told, refusal in streams():
+        yield given, told + " agree", refusal
+
+
 # what each program is run on; the output of a program must stay below 1 MiB
 PROGRAMS = {
+    "tests_desk": agreeing_streams,
     "tests_doubles": doubles,
     "tests_lines": lines,
     "tests_marked": conversation,
