@@ -401,6 +401,26 @@ fn ordered_first(
     )
 }
 
+// Two regular numbers in order, the first larger from a column on where their signs are unlike: at once where it is the first.
+fn ordered_from(
+    mode: u8,
+    x: Number,
+    xl: &[u64],
+    y: Number,
+    yl: &[u64],
+    p: u64,
+    from: u64,
+    target: &mut [u64],
+) -> Sum
+    requires { ⌜ (operandOf y (now yl) .isZero ≡ false) × Course (operandOf x (now xl)) (operandOf y (now yl)) from × Room p (length (now target)) ⌝ }
+    ensures { λ r. ⌜ Reported plus (modeOf mode) p (operandOf x (now (xl .entry))) (operandOf y (now (yl .entry))) (now (target .exit)) r ⌝ }
+{
+    if from == 0 {
+        return ordered_first(mode, x, xl, y, yl, p, false, target);
+    }
+    ordered(mode, x, xl, y, yl, p, from, target)
+}
+
 // No column in which two operands differ, of so many; or the first, where the first is larger, or the second.
 pub enum Differ {
     Never(u64),
@@ -447,8 +467,8 @@ fn unlike(mode: u8, x: Number, xl: &[u64], y: Number, yl: &[u64], p: u64, target
             let sign = zero_sign(mode, x.negative, y.negative);
             zero(sign, p, k, used(k, 0, xl.len()), used(k, 0, yl.len()))
         }
-        Differ::First(k) => ordered(mode, x, xl, y, yl, p, k, target),
-        Differ::Second(k) => exchanged(ordered(mode, y, yl, x, xl, p, k, target)),
+        Differ::First(k) => ordered_from(mode, x, xl, y, yl, p, k, target),
+        Differ::Second(k) => exchanged(ordered_from(mode, y, yl, x, xl, p, k, target)),
     }
 }
 
