@@ -13,6 +13,7 @@ use Rattle.walk.specs.Window.{headOf, Shows, shownColumns}
 use Rattle.walk.specs.declared.state.Window.{Window}
 use Rattle.walk.specs.declared.state.Tail.{Tail}
 use Rattle.walk.specs.declared.state.Tail.the-variants.{Empty}
+use Rattle.walk.proofs.Showing.{columns-guarded}
 use Rattle.leap.specs.Leap.{Leapt, leaptTo}
 use Rattle.settle.specs.Ways.{wayIs}
 use Rattle.settle.specs.Rows.{rowOf, Modest}
@@ -23,11 +24,11 @@ use Rattle.bridge.specs.Verdict.{pairOf, readSum}
 use Rattle.sums.specs.declared.going.Verdict.{Verdict}
 use Rattle.sums.specs.declared.going.Verdict.the-variants.{Open, Fixed}
 use Rattle.sums.specs.Ready.{Room}
-use Rattle.sums.specs.Course.{Course, Judged, Stopped, Prompt, Held, Begun, Reached, Arriving, Full, Inside, open?}
+use Rattle.sums.specs.Course.{Course, Judged, Stopped, Prompt, Held, Reached, Arriving, Full, Inside, open?}
 use Rattle.sums.proofs.JudgingRange.{digits-some, settled-as}
 use Rattle.sums.proofs.JudgingRows.{arrived-modest, told-exact, told-plus, told-minus}
 use Rattle.sums.proofs.GoingDown.{stops}
-use Rattle.sums.proofs.AtOnce.{reached, before-open, arriving, arriving-arrived, after-room}
+use Rattle.sums.proofs.AtOnce.{reached, before-open, arriving-arrived}
 use Rattle.sums.proofs.Inside.{inside-plus, inside-minus}
 
 -- ---- what a row says
@@ -107,7 +108,7 @@ module _ (p : ℕ) (pair : Pair) (first second before after : List ℕ) (room : 
         go true e = absurd (over (w .skipped) (w .filled) (first-reached .shows .below) (length after) (leapt .same-skip) whole (columns-at e (first-reached .shows .columns)))
           where
             columns-at : w .guarded ≡ true → w .skipped + shownColumns w + first-reached .shows .below ≡ length after → w .skipped + (w .filled + 1) + first-reached .shows .below ≡ length after
-            columns-at e h = rw (Rattle.walk.proofs.Showing.columns-guarded w after e) at h
+            columns-at e h = rw (columns-guarded w after e) at h
 
     stopped : Room p (length after) → (v : Verdict) → Says p pair w (length after) after v → open? v ≡ false → Stopped o p x y (record { window = w; columns = length after; verdict = v }) after
     stopped room-after v says e =

@@ -1,7 +1,6 @@
 -- `sums::front::filled_to` is right as it stands. Assumes nothing.
 use mathlib.Core.Path.{refl}
 use Rattle.leap.specs.Leap.{leaptTo}
-use borrow.Author.Needs.{needs}
 use Rattle.sums.proofs.front.filled_to.Statement.{statement}
 use Rattle.sums.proofs.front.filled_to.Tie as tie
 
