@@ -11,7 +11,10 @@ use Rattle.rounding.specs.Mode.{Mode}
 use Rattle.decide.specs.Decide.{decideAt}
 use Rattle.walk.specs.Window.{headOf, Shows, shownColumns}
 use Rattle.walk.specs.declared.state.Window.{Window}
-use Rattle.leap.specs.Leap.{Leapt}
+use Rattle.walk.specs.declared.state.Tail.{Tail}
+use Rattle.walk.specs.declared.state.Tail.the-variants.{Empty}
+use Rattle.walk.proofs.Showing.{columns-guarded}
+use Rattle.leap.specs.Leap.{Leapt, leaptTo}
 use Rattle.settle.specs.Ways.{wayIs}
 use Rattle.settle.specs.Rows.{rowOf, Modest}
 use Rattle.settle.specs.declared.rows.Pair.{Pair}
@@ -21,11 +24,11 @@ use Rattle.bridge.specs.Verdict.{pairOf, readSum}
 use Rattle.sums.specs.declared.going.Verdict.{Verdict}
 use Rattle.sums.specs.declared.going.Verdict.the-variants.{Open, Fixed}
 use Rattle.sums.specs.Ready.{Room}
-use Rattle.sums.specs.Course.{Course, Judged, Stopped, Prompt, Held, Begun, Reached, Arriving, Full, Inside, open?}
+use Rattle.sums.specs.Course.{Course, Judged, Stopped, Prompt, Held, Reached, Arriving, Full, Inside, open?}
 use Rattle.sums.proofs.JudgingRange.{digits-some, settled-as}
 use Rattle.sums.proofs.JudgingRows.{arrived-modest, told-exact, told-plus, told-minus}
 use Rattle.sums.proofs.GoingDown.{stops}
-use Rattle.sums.proofs.AtOnce.{reached, before-open, arriving, arriving-arrived, after-room}
+use Rattle.sums.proofs.AtOnce.{reached, before-open, arriving-arrived}
 use Rattle.sums.proofs.Inside.{inside-plus, inside-minus}
 
 -- ---- what a row says
@@ -60,6 +63,15 @@ module _ (p : ℕ) (pair : Pair) (w : Window) (k : ℕ) (target : List ℕ) (roo
 
 -- ---- the target is filled from the first column on
 
+window-is : (u : Window) (n : ℕ) → u .skipped ≡ 0 → u .filled ≡ n → u .guarded ≡ false → u .guard ≡ 0 → u .tail ≡ Empty → u ≡ leaptTo 0 (u .carry) n
+unfolding leaptTo
+window-is u n a b c d e =
+    ap (λ (m : ℕ). record { skipped = m; carry = u .carry; filled = u .filled; guarded = u .guarded; guard = u .guard; tail = u .tail }) a
+    ∙ ap (λ (m : ℕ). record { skipped = 0; carry = u .carry; filled = m; guarded = u .guarded; guard = u .guard; tail = u .tail }) b
+    ∙ ap (λ (g : Bool). record { skipped = 0; carry = u .carry; filled = n; guarded = g; guard = u .guard; tail = u .tail }) c
+    ∙ ap (λ (m : ℕ). record { skipped = 0; carry = u .carry; filled = n; guarded = false; guard = m; tail = u .tail }) d
+    ∙ ap (λ (t : Tail). record { skipped = 0; carry = u .carry; filled = n; guarded = false; guard = 0; tail = t }) e
+
 module _ (p : ℕ) (pair : Pair) (first second before after : List ℕ) (room : Room p (length before)) (prompt : Prompt pair (length first) (length second) 0 (length before)) (w : Window)
     (filled : (x y : Operand) → Course x y 0 → pair ≡ pairOf x y → first ≡ x .limbs → (y .isZero ≡ false → second ≡ y .limbs) → Leapt 0 (0 + length before) (readSum x y (0 + length before)) before after w)
     (ahead : w .filled ≡ length after → 2 ^ (64 * (length after - 1)) < headOf w after) where
@@ -79,12 +91,12 @@ module _ (p : ℕ) (pair : Pair) (first second before after : List ℕ) (room : 
     pub first-modest : Modest pair (length after)
     first-modest = arrived-modest _ _ _ _ _ _ (arriving-arrived p toward pair first second w after (length after) first-arriving)
 
+    leapt : Leapt 0 (0 + length before) (readSum x y (0 + length before)) before after w
+    leapt = filled x y course (held .pair-is) (held .first-is) (held .second-is)
+
     pub first-full : Full w after
     first-full = record { fits = first-reached .shows .fits; filled = whole; unguarded = go (w .guarded) refl }
       where
-        leapt : Leapt 0 (0 + length before) (readSum x y (0 + length before)) before after w
-        leapt = filled x y course (held .pair-is) (held .first-is) (held .second-is)
-
         whole : w .filled ≡ length after
         whole = leapt .full
 
@@ -96,8 +108,13 @@ module _ (p : ℕ) (pair : Pair) (first second before after : List ℕ) (room : 
         go true e = absurd (over (w .skipped) (w .filled) (first-reached .shows .below) (length after) (leapt .same-skip) whole (columns-at e (first-reached .shows .columns)))
           where
             columns-at : w .guarded ≡ true → w .skipped + shownColumns w + first-reached .shows .below ≡ length after → w .skipped + (w .filled + 1) + first-reached .shows .below ≡ length after
-            columns-at e h = rw (Rattle.walk.proofs.Showing.columns-guarded w after e) at h
+            columns-at e h = rw (columns-guarded w after e) at h
 
-    pub first-stopped : Room p (length after) → (v : Verdict) → Says p pair w (length after) after v → open? v ≡ false → Stopped o p x y (record { window = w; columns = length after; verdict = v }) after
-    first-stopped room-after v says e =
+    stopped : Room p (length after) → (v : Verdict) → Says p pair w (length after) after v → open? v ≡ false → Stopped o p x y (record { window = w; columns = length after; verdict = v }) after
+    stopped room-after v says e =
         stops o p x y w after (length after) v room-after first-reached (says e o x y toward first second held first-reached) (length after - 1) (omega (arith, first-reached .some)) (λ j. first-open (omega arith)) e
+
+    pub first-stopped : Room p (length after) → (v : Verdict) → Says p pair w (length after) after v → open? v ≡ false → (u : Window) → u ≡ leaptTo 0 (w .carry) (length after) → Stopped o p x y (record { window = u; columns = length after; verdict = v }) after
+    first-stopped room-after v says e u is =
+        let n = first-full .fits .untailed (first-full .unguarded) in
+        subst (λ (z : Window). Stopped o p x y (record { window = z; columns = length after; verdict = v }) after) (window-is w (length after) (leapt .same-skip) (first-full .filled) (first-full .unguarded) (n .1) (n .0) ∙ sym is) (stopped room-after v says e)

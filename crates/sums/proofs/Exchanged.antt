@@ -14,12 +14,16 @@ use Rattle.sums.specs.declared.report.Sum.{Sum}
 use Rattle.sums.specs.Exchanged.{exchangedSum}
 use Rattle.sums.specs.Summed.{sumOf, refusedSum, Reported}
 
-sum-exchanged : (a : Answer) (p d u v : ℕ) → exchangedSum (sumOf a p d u v) ≡ sumOf a p d v u
+pub sum-exchanged : (a : Answer) (p d u v : ℕ) → exchangedSum (sumOf a p d u v) ≡ sumOf a p d v u
 unfolding exchangedSum sumOf refusedSum
 sum-exchanged (zeroOf n) p d u v = refl
 sum-exchanged (number n e m t) p d u v = refl
 sum-exchanged tooLarge p d u v = refl
 sum-exchanged tooSmall p d u v = refl
+
+pub exchanged-back : (s : Sum) → s ≡ exchangedSum (exchangedSum s)
+unfolding exchangedSum
+exchanged-back s = refl
 
 module _ (o : Mode) (p : ℕ) (P : 0 < p) (x y : Operand) (some : (x .isZero && y .isZero) ≡ false) where
   others : (y .isZero && x .isZero) ≡ false

@@ -7,6 +7,7 @@ ghost use lib.ListN.{length};
 ghost use Rattle.numbers.specs.Operand.{Operand};
 ghost use Rattle.rounding.specs.Mode.{Mode};
 ghost use Rattle.walk.specs.Window.{Shows};
+ghost use Rattle.leap.specs.Leap.{leaptTo};
 ghost use Rattle.settle.specs.Ways.{wayIs};
 ghost use Rattle.settle.specs.Rows.{Modest};
 ghost use Rattle.settle.specs.declared.rows.Way as code;
@@ -24,6 +25,7 @@ use crate::prompt::is_prompt;
 use settle::Pair;
 use settle::Row;
 use settle::Way;
+use walk::Tail;
 use walk::Window;
 
 // The half of the unit above the last `drop` digits.
@@ -86,6 +88,20 @@ fn glance(p: u64, pair: Pair, w: Window, k: u64, target: &[u64]) -> Verdict
     }
 }
 
+// A window of n limbs filled from the first column on, and nothing below them.
+fn filled_to(n: usize, carry: bool) -> Window
+    ensures { λ r. ⌜ r ≡ leaptTo 0 carry n ⌝ }
+{
+    Window {
+        skipped: 0,
+        carry: carry,
+        filled: n,
+        guarded: false,
+        guard: 0,
+        tail: Tail::Empty,
+    }
+}
+
 // Fills the target at once, and goes on where a glance at it fixes nothing.
 fn walk_filled(
     way: Way,
@@ -108,7 +124,7 @@ fn walk_filled(
         return walk_on(way, p, pair, first, second, w, k, target);
     }
     Walked {
-        window: w,
+        window: filled_to(target.len(), w.carry),
         columns: k,
         verdict: verdict,
     }

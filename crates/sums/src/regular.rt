@@ -1,6 +1,6 @@
 // Sums of regular numbers.
 ghost use mathlib.Core.Path.{_≡_};
-ghost use mathlib.Core.Bool.{true, false, not};
+ghost use mathlib.Core.Bool.{true, false, not, cond};
 ghost use Prim.Native.Nat.{ℕ, suc, _+_, _-_, _*_, _^_, _≤_, _<_, max};
 ghost use lib.Dec.{eqb};
 ghost use lib.ListN.{length, replicate};
@@ -354,7 +354,15 @@ fn ordered(
     )
 }
 
-// Two regular numbers in order, the first larger from the first column on where their signs are unlike.
+// The first of two counts, or the second.
+fn either(second: bool, a: u64, b: u64) -> u64
+    ensures { λ r. ⌜ r ≡ cond second b a ⌝ }
+{
+    if second { b } else { a }
+}
+
+// Two regular numbers in order, the first larger from the first column on where their signs are unlike. Reports them in the other order
+// where so said.
 fn ordered_first(
     mode: u8,
     x: Number,
@@ -362,10 +370,11 @@ fn ordered_first(
     y: Number,
     yl: &[u64],
     p: u64,
+    swapped: bool,
     target: &mut [u64],
 ) -> Sum
     requires { ⌜ (operandOf y (now yl) .isZero ≡ false) × Course (operandOf x (now xl)) (operandOf y (now yl)) 0 × Room p (length (now target)) ⌝ }
-    ensures { λ r. ⌜ Reported plus (modeOf mode) p (operandOf x (now (xl .entry))) (operandOf y (now (yl .entry))) (now (target .exit)) r ⌝ }
+    ensures { λ r. ⌜ (swapped ≡ false → Reported plus (modeOf mode) p (operandOf x (now (xl .entry))) (operandOf y (now (yl .entry))) (now (target .exit)) r) × (swapped ≡ true → Reported plus (modeOf mode) p (operandOf y (now (yl .entry))) (operandOf x (now (xl .entry))) (now (target .exit)) r) ⌝ }
 {
     let negative = x.negative;
     let top = checks::counted_exponent(x.exponent);
@@ -381,7 +390,35 @@ fn ordered_first(
     let k = walked.columns;
     let placed = finish_full(mode, negative, p, pair, walked, target);
     let lower = used(k, gap, yl.len());
-    answered(placed, negative, p, k, used(k, 0, xl.len()), lower)
+    let upper = used(k, 0, xl.len());
+    answered(
+        placed,
+        negative,
+        p,
+        k,
+        either(swapped, upper, lower),
+        either(swapped, lower, upper),
+    )
+}
+
+// Two regular numbers in order, the first larger from a column on where their signs are unlike: at once where it is the first.
+fn ordered_from(
+    mode: u8,
+    x: Number,
+    xl: &[u64],
+    y: Number,
+    yl: &[u64],
+    p: u64,
+    from: u64,
+    target: &mut [u64],
+) -> Sum
+    requires { ⌜ (operandOf y (now yl) .isZero ≡ false) × Course (operandOf x (now xl)) (operandOf y (now yl)) from × Room p (length (now target)) ⌝ }
+    ensures { λ r. ⌜ Reported plus (modeOf mode) p (operandOf x (now (xl .entry))) (operandOf y (now (yl .entry))) (now (target .exit)) r ⌝ }
+{
+    if from == 0 {
+        return ordered_first(mode, x, xl, y, yl, p, false, target);
+    }
+    ordered(mode, x, xl, y, yl, p, from, target)
 }
 
 // No column in which two operands differ, of so many; or the first, where the first is larger, or the second.
@@ -430,8 +467,8 @@ fn unlike(mode: u8, x: Number, xl: &[u64], y: Number, yl: &[u64], p: u64, target
             let sign = zero_sign(mode, x.negative, y.negative);
             zero(sign, p, k, used(k, 0, xl.len()), used(k, 0, yl.len()))
         }
-        Differ::First(k) => ordered(mode, x, xl, y, yl, p, k, target),
-        Differ::Second(k) => exchanged(ordered(mode, y, yl, x, xl, p, k, target)),
+        Differ::First(k) => ordered_from(mode, x, xl, y, yl, p, k, target),
+        Differ::Second(k) => exchanged(ordered_from(mode, y, yl, x, xl, p, k, target)),
     }
 }
 
@@ -451,13 +488,13 @@ pub fn both(
     let a = checks::counted_exponent(x.exponent);
     let b = checks::counted_exponent(y.exponent);
     if b < a {
-        return ordered_first(mode, x, xl, y, yl, p, target);
+        return ordered_first(mode, x, xl, y, yl, p, false, target);
     }
     if a < b {
-        return exchanged(ordered_first(mode, y, yl, x, xl, p, target));
+        return ordered_first(mode, y, yl, x, xl, p, true, target);
     }
     if x.negative == y.negative {
-        return ordered_first(mode, x, xl, y, yl, p, target);
+        return ordered_first(mode, x, xl, y, yl, p, false, target);
     }
     unlike(mode, x, xl, y, yl, p, target)
 }

@@ -36,11 +36,14 @@ same-length-2 c = search needs
 returns-2 : tie.Need-returns-2
 returns-2 c = λ o x y held course. c .before .before .walk-on .ensures o x y held (first-reached _ _ (c .before .before .before .before .before .before .before .before .before .before .before .before .before .before .before .before .before .before .args .first .now) (c .before .before .before .before .before .before .before .before .before .before .before .before .before .before .before .before .before .before .args .second .now) (c .before .before .before .before .before .before .before .before .before .before .before .before .before .before .before .before .before .before .args .target .now) _ (c .before .before .before .before .before .before .before .before .before .before .before .before .before .before .before .before .before .before .pre .0) (c .before .before .before .before .before .before .before .before .before .before .before .before .before .before .before .before .before .before .pre .2) _ (c .before .before .before .before .before .before .before .before .before .before .before .before .before .fill .ensures) (λ f. c .before .before .before .before .before .before .before .before .before .has-lead .ensures (not-true _ (c .before .before .before .before .before .before .before .before .if1 .left)) f) o x y _ held course) (first-open _ _ (c .before .before .before .before .before .before .before .before .before .before .before .before .before .before .before .before .before .before .args .first .now) (c .before .before .before .before .before .before .before .before .before .before .before .before .before .before .before .before .before .before .args .second .now) (c .before .before .before .before .before .before .before .before .before .before .before .before .before .before .before .before .before .before .args .target .now) _ (c .before .before .before .before .before .before .before .before .before .before .before .before .before .before .before .before .before .before .pre .0) (c .before .before .before .before .before .before .before .before .before .before .before .before .before .before .before .before .before .before .pre .2) _ (c .before .before .before .before .before .before .before .before .before .before .before .before .before .fill .ensures) (λ f. c .before .before .before .before .before .before .before .before .before .has-lead .ensures (not-true _ (c .before .before .before .before .before .before .before .before .if1 .left)) f) o x y _ held course)
 
+filled-to-requires : tie.Need-filled-to-requires
+filled-to-requires c κs = search needs
+
 same-length-3 : tie.Need-same-length-3
 same-length-3 c = search needs
 
 returns-3 : tie.Need-returns-3
-returns-3 c = λ o x y held course. first-stopped _ _ (c .before .before .before .before .before .before .before .before .before .before .before .before .before .before .args .first .now) (c .before .before .before .before .before .before .before .before .before .before .before .before .before .before .args .second .now) (c .before .before .before .before .before .before .before .before .before .before .before .before .before .before .args .target .now) _ (c .before .before .before .before .before .before .before .before .before .before .before .before .before .before .pre .0) (c .before .before .before .before .before .before .before .before .before .before .before .before .before .before .pre .2) _ (c .before .before .before .before .before .before .before .before .before .fill .ensures) (λ f. c .before .before .before .before .before .has-lead .ensures (not-true _ (c .before .before .before .before .if1 .left)) f) o x y _ held course (after-room _ _ (c .before .before .before .before .before .before .before .before .before .before .before .before .before .before .args .first .now) (c .before .before .before .before .before .before .before .before .before .before .before .before .before .before .args .second .now) 0 (c .before .before .before .before .before .before .before .before .before .before .before .before .before .before .args .target .now) _ (c .before .before .before .before .before .before .before .before .before .before .before .before .before .before .pre .0) (c .before .before .before .before .before .before .before .before .before .before .before .before .before .before .pre .2) _ (c .before .before .before .before .before .before .before .before .before .fill .ensures) _ (c .before .before .before .before .before .before .before .before .before .before .before .before .before .before .pre .1)) _ (c .before .before .glance .ensures) (sym (c .before .is-open .ensures) ∙ c .if2 .left)
+returns-3 c = λ o x y held course. first-stopped _ _ (c .before .before .before .before .before .before .before .before .before .before .before .before .before .before .before .args .first .now) (c .before .before .before .before .before .before .before .before .before .before .before .before .before .before .before .args .second .now) (c .before .before .before .before .before .before .before .before .before .before .before .before .before .before .before .args .target .now) _ (c .before .before .before .before .before .before .before .before .before .before .before .before .before .before .before .pre .0) (c .before .before .before .before .before .before .before .before .before .before .before .before .before .before .before .pre .2) _ (c .before .before .before .before .before .before .before .before .before .before .fill .ensures) (λ f. c .before .before .before .before .before .before .has-lead .ensures (not-true _ (c .before .before .before .before .before .if1 .left)) f) o x y _ held course (after-room _ _ (c .before .before .before .before .before .before .before .before .before .before .before .before .before .before .before .args .first .now) (c .before .before .before .before .before .before .before .before .before .before .before .before .before .before .before .args .second .now) 0 (c .before .before .before .before .before .before .before .before .before .before .before .before .before .before .before .args .target .now) _ (c .before .before .before .before .before .before .before .before .before .before .before .before .before .before .before .pre .0) (c .before .before .before .before .before .before .before .before .before .before .before .before .before .before .before .pre .2) _ (c .before .before .before .before .before .before .before .before .before .before .fill .ensures) _ (c .before .before .before .before .before .before .before .before .before .before .before .before .before .before .before .pre .1)) _ (c .before .before .before .glance .ensures) (sym (c .before .before .is-open .ensures) ∙ c .before .if2 .left) _ (c .filled-to .ensures)
 
 pub walk-filled-spec : {M : Type 1} → statement M
 walk-filled-spec =
@@ -56,5 +59,6 @@ walk-filled-spec =
     walk-on-requires
     same-length-2
     returns-2
+    filled-to-requires
     same-length-3
     returns-3)

@@ -1,6 +1,6 @@
 -- `regular::both`: the larger exponent goes first; of one exponent, like signs add and unlike signs are told apart. Assumes nothing.
 use mir.Facts.{toZ-ofZ}
-use Rattle.sums.proofs.Entries.{zero-first}
+use mathlib.Core.Path.{refl}
 use Rattle.sums.proofs.RegularLevel.{both-first, both-second, both-like, both-unlike}
 use borrow.Author.Needs.{needs}
 use Rattle.sums.proofs.regular.both.Statement.{statement}
@@ -24,7 +24,7 @@ same-length : tie.Need-same-length
 same-length c = search needs
 
 returns : tie.Need-returns
-returns c = c .before .before .ordered-first .ensures
+returns c = c .before .before .ordered-first .ensures .0 refl
 
 ordered-first-requires-2 : tie.Need-ordered-first-requires-2
 ordered-first-requires-2 c κs =
@@ -34,17 +34,11 @@ ordered-first-requires-2 c κs =
     let second = rw (toZ-ofZ (record { sfits = c .before .before .before .before .struct-told2 .given .1 .1 .1 .0 .1 })) at (c .before .before .before .counted-exponent2 .ensures) in
     both-second (a .x) (a .xl .now) (a .y) (a .yl .now) (a .p) _ (b .pre .5) (b .pre .1) (b .pre .2) (b .pre .3) (b .pre .4) _ _ first second (c .before .if2 .taken)
 
-exchanged-requires : tie.Need-exchanged-requires
-exchanged-requires c κs = search needs
-
 same-length-2 : tie.Need-same-length-2
 same-length-2 c = search needs
 
 returns-2 : tie.Need-returns-2
-returns-2 c =
-    let b = c .before .before .before .before .before .before .before .before .before .before .before .before .before .before in
-    let a = b .args in
-    zero-first (a .mode) (a .p) _ _ _ _ _ _ (b .pre .5) (b .pre .4) (c .exchanged .ensures) (c .before .before .before .ordered-first2 .ensures)
+returns-2 c = c .before .before .ordered-first2 .ensures .1 refl
 
 ordered-first-requires-3 : tie.Need-ordered-first-requires-3
 ordered-first-requires-3 c κs =
@@ -58,7 +52,7 @@ same-length-3 : tie.Need-same-length-3
 same-length-3 c = search needs
 
 returns-3 : tie.Need-returns-3
-returns-3 c = c .before .before .ordered-first3 .ensures
+returns-3 c = c .before .before .ordered-first3 .ensures .0 refl
 
 unlike-requires : tie.Need-unlike-requires
 unlike-requires c κs =
@@ -84,7 +78,6 @@ both-spec =
     same-length
     returns
     ordered-first-requires-2
-    exchanged-requires
     same-length-2
     returns-2
     ordered-first-requires-3

@@ -1,5 +1,9 @@
 -- `regular::ordered_first`: the walk stops where the answer is fixed, and its end is reported with the limbs that its columns reach. Assumes nothing.
+use mathlib.Core.Path.{ap, _∙_}
 use mir.Facts.{toZ-ofZ}
+use Rattle.sums.specs.Exchanged.{exchangedSum}
+use Rattle.sums.proofs.Entries.{zero-first}
+use Rattle.sums.proofs.Exchanged.{sum-exchanged, exchanged-back}
 use Rattle.sums.proofs.RegularReport.{gap-some, ordered-begun, ordered-ending, ordered-few, ordered-reported}
 use borrow.Author.Needs.{needs}
 use Rattle.sums.proofs.regular.ordered_first.Statement.{statement}
@@ -63,14 +67,26 @@ answered-requires c κs = search needs
 same-length : tie.Need-same-length
 same-length c = search needs
 
+either-requires : tie.Need-either-requires
+either-requires c κs = search needs
+
+either-requires-2 : tie.Need-either-requires-2
+either-requires-2 c κs = search needs
+
 returns : tie.Need-returns
 returns c =
-    let b = c .before .before .before .before .before .before .before .before .before .before .before .before .before .before .before .before .before .before .before .before in
+    let b = c .before .before .before .before .before .before .before .before .before .before .before .before .before .before .before .before .before .before .before .before .before .before in
     let a = b .args in
-    let w = c .before .before .before .before .before .before .before .before .before .walk-first in
-    let first = rw (toZ-ofZ (record { sfits = c .before .before .before .before .before .before .before .before .before .before .before .before .before .before .before .before .struct-told .given .1 .1 .1 .0 .1 })) at (c .before .before .before .before .before .before .before .before .before .before .before .before .before .before .before .counted-exponent .ensures) in
-    let second = rw (toZ-ofZ (record { sfits = c .before .before .before .before .before .before .before .before .before .before .before .before .before .before .struct-told2 .given .1 .1 .1 .0 .1 })) at (c .before .before .before .before .before .before .before .before .before .before .before .before .before .counted-exponent2 .ensures) in
-    ordered-reported (a .mode) (a .p) (a .x) (a .xl .now) (a .y) (a .yl .now) 0 _ _ _ (w .result) (a .target .now) _ (b .pre .0) (b .pre .1) (b .pre .2) (c .before .before .before .before .before .before .before .before .before .before .before .way-of .ensures) first second (c .before .before .before .before .before .before .before .before .target .given) (w .ensures) (c .before .before .before .before .before .finish-full .ensures) (c .before .used2 .ensures) (c .before .before .used .ensures) (c .answered .ensures)
+    let w = c .before .before .before .before .before .before .before .before .before .before .before .walk-first in
+    let first = rw (toZ-ofZ (record { sfits = c .before .before .before .before .before .before .before .before .before .before .before .before .before .before .before .before .before .before .struct-told .given .1 .1 .1 .0 .1 })) at (c .before .before .before .before .before .before .before .before .before .before .before .before .before .before .before .before .before .counted-exponent .ensures) in
+    let second = rw (toZ-ofZ (record { sfits = c .before .before .before .before .before .before .before .before .before .before .before .before .before .before .before .before .struct-told2 .given .1 .1 .1 .0 .1 })) at (c .before .before .before .before .before .before .before .before .before .before .before .before .before .before .before .counted-exponent2 .ensures) in
+    let upper = c .before .before .before .used2 .ensures in
+    let lower = c .before .before .before .before .used .ensures in
+    let first-count = c .before .before .either .ensures in
+    let second-count = c .before .either2 .ensures in (
+      (λ e. ordered-reported (a .mode) (a .p) (a .x) (a .xl .now) (a .y) (a .yl .now) 0 _ _ _ (w .result) (a .target .now) _ (b .pre .0) (b .pre .1) (b .pre .2) (c .before .before .before .before .before .before .before .before .before .before .before .before .before .way-of .ensures) first second (c .before .before .before .before .before .before .before .before .before .before .target .given) (w .ensures) (c .before .before .before .before .before .before .before .finish-full .ensures) (first-count ∙ rw e upper) (second-count ∙ rw e lower) (c .answered .ensures)),
+      (λ e. zero-first (a .mode) (a .p) _ _ _ _ _ _ (b .pre .2) (b .pre .1 .ordered .regular) (exchanged-back _) (ordered-reported (a .mode) (a .p) (a .x) (a .xl .now) (a .y) (a .yl .now) 0 _ _ _ (w .result) (a .target .now) _ (b .pre .0) (b .pre .1) (b .pre .2) (c .before .before .before .before .before .before .before .before .before .before .before .before .before .way-of .ensures) first second (c .before .before .before .before .before .before .before .before .before .before .target .given) (w .ensures) (c .before .before .before .before .before .before .before .finish-full .ensures) (second-count ∙ rw e upper) (first-count ∙ rw e lower) (λ v g h. ap exchangedSum (c .answered .ensures v g h) ∙ sum-exchanged v _ _ _ _))),
+    )
 
 pub ordered-first-spec : {M : Type 1} → statement M
 ordered-first-spec =
@@ -84,6 +100,8 @@ ordered-first-spec =
     finish-full-requires
     used-requires
     used-requires-2
+    either-requires
+    either-requires-2
     answered-requires
     same-length
     returns)
