@@ -87,7 +87,7 @@ onto-longer : (a b : List ℕ) → length a ≤ length (onto a b)
 unfolding onto
 onto-longer a b = simp length-append (omega arith)
 
-onto-as-long : (a b : List ℕ) → length b ≤ length (onto a b)
+pub onto-as-long : (a b : List ℕ) → length b ≤ length (onto a b)
 unfolding onto
 onto-as-long a b = simp (length-append, length-drop) (omega arith)
 

@@ -56,7 +56,7 @@ some-one [] n = absurd (n refl)
 some-one (b ∷ l) n = refl
 
 -- at the end of the input a line under way counts, if it has a byte
-ended-printed : {g : Group} {told : List ℕ} → Ends g told → Printed (resume g []) told
+pub ended-printed : {g : Group} {told : List ℕ} → Ends g told → Printed (resume g []) told
 unfolding resume resumed linesFrom
 ended-printed {g} (serving.nothing z e) = simp (z, some-none (g .first) e) nothing
 ended-printed {g} (oneLine z e) = simp (z, some-one (g .first) e) (noSecond (g .first))
