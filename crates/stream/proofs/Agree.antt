@@ -4,13 +4,12 @@ use mathlib.Core.Bool.{Bool, true, false}
 use mathlib.Core.List.{List, [], _∷_, _++_}
 use Prim.Native.Nat.{ℕ, _+_, _≤_, _<_}
 use native.Mathlib.Omega.{arith}
-use native.Mathlib.Decide.{ℕ-discrete, decLe}
+use native.Mathlib.Decide.{decLe}
 use lib.ListN.{length, take}
 use lib.Seq.{length-take-le}
-use Rattle.checks.specs.declared.Refusal.{Refusal}
 use Rattle.checks.specs.Check.{accepted}
 use Rattle.sums.specs.declared.report.Sum.{Sum}
-use Rattle.sums.proofs.Agree.{reported-unique}
+use Rattle.sums.proofs.Agree.{accepted-or, reported-unique}
 use Rattle.lines.specs.Writing.{onto}
 use Rattle.groups.specs.Answer.{sumLines, groupRefusal, Answered, longestAnswer}
 use Rattle.groups.specs.Written.{Answers}
@@ -22,15 +21,6 @@ use Rattle.stream.specs.Serving.{State, groupOf, Serves, ended, full, wa
 use Rattle.stream.proofs.Resuming.{resume}
 use Rattle.stream.proofs.Printing.{ended-printed}
 use Rattle.stream.proofs.Pieces.{true-false, onto-as-long}
-
-accepted-or : (c : Refusal) → Dec (c ≡ accepted)
-unfolding accepted
-accepted-or c = go (ℕ-discrete (c .rule) 0) (ℕ-discrete (c .place) 0)
-  where
-    go : Dec (c .rule ≡ 0) → Dec (c .place ≡ 0) → Dec (c ≡ accepted)
-    go (yes a) (yes b) = yes (let x : c ≡ record { rule = c .rule; place = c .place } = refl in x ∙ ap (λ (n : ℕ). record { rule = n; place = c .place }) a ∙ ap (λ (n : ℕ). record { rule = 0; place = n }) b)
-    go (no n) b = no (λ e. n (ap (λ (r : Refusal). r .rule) e))
-    go (yes a) (no n) = no (λ e. n (ap (λ (r : Refusal). r .place) e))
 
 pub answered-unique : (a b c o p : List ℕ) → Answered a b c o → Answered a b c p → o ≡ p
 answered-unique a b c o p x y = go (accepted-or (groupRefusal a b c))

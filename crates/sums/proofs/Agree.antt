@@ -17,7 +17,8 @@ use Rattle.checks.specs.Check.{accepted, pairRefusal, singleRefusal}
 use Rattle.sums.specs.declared.report.Sum.{Sum}
 use Rattle.sums.specs.Summed.{sumOf, refusedSum, Reported, Refused, Summed, Rerounded}
 
-accepted-or : (c : Refusal) → Dec (c ≡ accepted)
+-- nothing is refused, or something is
+pub accepted-or : (c : Refusal) → Dec (c ≡ accepted)
 unfolding accepted
 accepted-or c = go (ℕ-discrete (c .rule) 0) (ℕ-discrete (c .place) 0)
   where

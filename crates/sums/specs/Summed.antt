@@ -14,15 +14,12 @@ use Rattle.depth.specs.Bound.{deepest}
 use Rattle.checks.specs.declared.Number.{Number}
 use Rattle.checks.specs.declared.Refusal.{Refusal}
 use Rattle.checks.specs.declared.Kind.the-variants.{Regular, Zero}
-use Rattle.checks.specs.Number.{operandOf, exponentOf}
+use Rattle.checks.specs.Number.{operandOf, exponentOf, nothing}
 use Rattle.checks.specs.Check.{accepted, pairRefusal, singleRefusal}
 use Rattle.place.specs.Placed.{ternaryOf, limbsAfter}
 use Rattle.sums.specs.declared.report.Sum.{Sum}
 
 -- "It returns +0 of precision 2, ternary 0."
-unfoldable pub nothing : Number
-nothing = record { negative = false; kind = Zero; precision = 2; exponent = pos 0 }
-
 unfoldable pub refusedSum : Refusal → ℕ → ℕ → ℕ → Sum
 refusedSum r depth first second = record { number = nothing; ternary = pos 0; depth = depth; first = first; second = second; refusal = r }
 

@@ -1,6 +1,7 @@
 -- `report::refused` is the refused sum, field by field. Assumes nothing.
 use mathlib.Core.Path.{refl}
-use Rattle.sums.specs.Summed.{nothing, refusedSum}
+use Rattle.checks.specs.Number.{nothing}
+use Rattle.sums.specs.Summed.{refusedSum}
 use Rattle.sums.proofs.report.refused.Statement.{statement}
 use Rattle.sums.proofs.report.refused.Tie as tie
 
