@@ -32,11 +32,12 @@ fn normalize(carry: bool, limb: u64, guard: u64, more: bool, unit: u64) -> Norma
     ensures { λ r. ⌜ Normalized carry limb guard more unit r ⌝ }
 {
     if carry {
+        let higher = unit + 1;
         return Normal {
             limb: (limb >> 1) | FIRST_DIGIT,
             guard: (limb << 63) | (guard >> 1),
             more: (guard % 2 != 0) | more,
-            unit: unit + 1,
+            unit: higher,
         };
     }
     let zeros = u64::leading_zeros(limb) as u64;
@@ -48,11 +49,15 @@ fn normalize(carry: bool, limb: u64, guard: u64, more: bool, unit: u64) -> Norma
             unit,
         };
     }
+    let moved = limb << zeros;
+    let entering = guard >> (64 - zeros);
+    let left = guard << zeros;
+    let lower = unit - zeros;
     Normal {
-        limb: (limb << zeros) | (guard >> (64 - zeros)),
-        guard: guard << zeros,
+        limb: moved | entering,
+        guard: left,
         more,
-        unit: unit - zeros,
+        unit: lower,
     }
 }
 

@@ -19,9 +19,9 @@ top : (c : tie.Else2) → (leadingZeros 64 (c .before .before .args .limb) < 64)
     × (c .before .before .args .limb * 2 ^ leadingZeros 64 (c .before .before .args .limb) < 2 ^ 64)
 top c = let s = c .before .before in zeros-top (s .args .limb) (s .pre .0 (c .before .if1 .left)) (s .fits .limb .fits)
 
-add-t16 : tie.Need-add-t16
+add-higher : tie.Need-add-higher
 unfolding mostExponent bias
-add-t16 c = search needs
+add-higher c = search needs
 
 returns : tie.Need-returns
 returns c =
@@ -42,20 +42,20 @@ returns-2 c =
     let top = zeros-top (g .limb) (s .pre .0 (c .before .if1 .left)) (s .fits .limb .fits) in
     stays (g .carry) (g .limb) (g .guard) (g .more) (g .unit) (s .fits .limb .fits) (s .fits .guard .fits) (c .before .if1 .left) (at-top (g .limb) _ (c .if2 .taken) (top .1))
 
-shl-t18 : tie.Need-shl-t18
-shl-t18 c = top c .0
+shl-moved : tie.Need-shl-moved
+shl-moved c = top c .0
 
-sub-t19 : tie.Need-sub-t19
-sub-t19 c = omega (arith, top c .0)
+sub-entering : tie.Need-sub-entering
+sub-entering c = omega (arith, top c .0)
 
-shr-t20 : tie.Need-shr-t20
-shr-t20 c = search needs
+shr-entering : tie.Need-shr-entering
+shr-entering c = search needs
 
-shl-t22 : tie.Need-shl-t22
-shl-t22 c = top c .0
+shl-left : tie.Need-shl-left
+shl-left c = top c .0
 
-sub-t23 : tie.Need-sub-t23
-sub-t23 c = omega (arith, top c .0, c .before .before .pre .1)
+sub-lower : tie.Need-sub-lower
+sub-lower c = omega (arith, top c .0, c .before .before .pre .1)
 
 returns-3 : tie.Need-returns-3
 returns-3 c =
@@ -68,13 +68,13 @@ pub normalize-spec : {M : Type 1} → statement M
 normalize-spec =
     tie.close
     (tie.spec
-    add-t16
+    add-higher
     returns
     cast-zeros
     returns-2
-    shl-t18
-    sub-t19
-    shr-t20
-    shl-t22
-    sub-t23
+    shl-moved
+    sub-entering
+    shr-entering
+    shl-left
+    sub-lower
     returns-3)
