@@ -3,7 +3,7 @@ use mathlib.Core.Path.{_≡_, refl, sym, ap, _∙_, subst}
 use mathlib.Core.Bool.{Bool, true, false, not, _&&_, _||_}
 use mathlib.Core.List.{List, [], _∷_}
 use Prim.Native.Nat.{ℕ, suc, _+_, _-_, _*_, _/_, _%_, _^_, _≤_, _<_}
-use native.Mathlib.Nat.{le-trans, le-of-eq, lt-of-lt-of-le, div-eq-of-lt, mul-le-mul-right, le-of-mul-le-mul-right, lt-of-mul-lt-mul-right}
+use native.Mathlib.Nat.{le-trans, le-of-eq, div-eq-of-lt, mul-le-mul-right, le-of-mul-le-mul-right, lt-of-mul-lt-mul-right}
 use native.Mathlib.Omega.{arith}
 use lib.Bits.{bitOr, or-zero-r}
 use lib.Count.{leadingZeros, leading-top}
@@ -44,18 +44,24 @@ module _ (b : Bool) (x g : ℕ) where
   unfolding whole
   whole-plain e = ap (λ (n : ℕ). n * 2 ^ 64 + g) (headed-false b (x ∷ []) e ∙ one-value x)
 
--- the zeros above the first digit bring it to the top
-pub zeros-top : (x : ℕ) → 0 < x → x < 2 ^ 64 → (leadingZeros 64 x < 64) × (2 ^ 63 ≤ x * 2 ^ leadingZeros 64 x) × (x * 2 ^ leadingZeros 64 x < 2 ^ 64)
+-- z bits up bring the first digit of x to the top
+pub record ToTop (x z : ℕ) : Type 0 where
+  pub few : z < 64
+  pub first : 2 ^ 63 ≤ x * 2 ^ z
+  pub fits : x * 2 ^ z < 2 ^ 64
+
+pub zeros-top : (x : ℕ) → 0 < x → x < 2 ^ 64 → ToTop x (leadingZeros 64 x)
 zeros-top x h lt =
     let top = leading-top 64 x h lt in
     let z = leadingZeros 64 x in
     let k = top .0 in
     let e : k + z ≡ 63 = omega (arith, top .1) in
-    let f : suc k + z ≡ 64 = omega (arith, top .1) in (
-      omega (arith, top .1),
-      le-trans (le-of-eq (ap (λ (n : ℕ). 2 ^ n) (sym e) ∙ pow-add 2 k z)) (mul-le-mul-right (2 ^ z) (top .2)),
-      subst (λ (n : ℕ). x * 2 ^ z < 2 ^ n) f (shl-lt {a = x} (suc k) z (top .3)),
-    )
+    let f : suc k + z ≡ 64 = omega (arith, top .1) in
+    record {
+      few = omega (arith, top .1);
+      first = le-trans (le-of-eq (ap (λ (n : ℕ). 2 ^ n) (sym e) ∙ pow-add 2 k z)) (mul-le-mul-right (2 ^ z) (top .2));
+      fits = subst (λ (n : ℕ). x * 2 ^ z < 2 ^ n) f (shl-lt {a = x} (suc k) z (top .3));
+    }
 
 -- ---- what the moves leave
 
@@ -84,18 +90,21 @@ module _ (b : Bool) (x g : ℕ) (more : Bool) (u : ℕ) (lt : x < 2 ^ 64) (few :
       down : (H B l m c o y q r : ℕ) → B ≡ 2 * H → 2 * l + o ≡ y → x ≡ 2 * c + o → g ≡ 2 * q + r → m + B * c ≡ x * H + q → y * B + g ≡ (l * B + m) * 2 + r
       down H B l m c o y q r e f i k d = let v = ap (λ (n : ℕ). n * B) f in let t = ap (λ (n : ℕ). n * H) i in omega (arith, ap (λ (n : ℕ). c * n) e, ap (λ (n : ℕ). o * n) e)
 
-  pub stays : b ≡ false → 2 ^ 63 ≤ x → Normalized b x g more u (record { limb = x; guard = g; more = more; unit = u })
-  stays e h =
+  pub stays : b ≡ false → (z : ℕ) → ToTop x z → z ≡ 0 → Normalized b x g more u (record { limb = x; guard = g; more = more; unit = u })
+  stays e z t h =
       record {
-        first = h;
+        first = there z h (t .first);
         carried = λ f. differ f e;
         plain = λ f. (ap (λ (c : Bool). whole c (x ∷ []) g) (sym e) ∙ same (whole b (x ∷ []) g) u, refl, omega arith, omega arith);
       }
     where
+      there : (z : ℕ) → z ≡ 0 → 2 ^ 63 ≤ x * 2 ^ z → 2 ^ 63 ≤ x
+      there z e h = let k = rw e at h in omega arith
+
       same : (w u : ℕ) → w ≡ w * 2 ^ (u - u)
       same w u = let z : u - u ≡ 0 = omega arith in rw z (omega arith)
 
-  module _ (z : ℕ) (some : 0 < z) (less : z < 64) (first : 2 ^ 63 ≤ x * 2 ^ z) (fits : x * 2 ^ z < 2 ^ 64) (room : z ≤ u) where
+  module _ (z : ℕ) (top : ToTop x z) (some : 0 < z) (room : z ≤ u) where
     abbrev up : ℕ
     up = g / 2 ^ (64 - z)
 
@@ -109,20 +118,20 @@ module _ (b : Bool) (x g : ℕ) (more : Bool) (u : ℕ) (lt : x < 2 ^ 64) (few :
     limb-is : raised-limb ≡ x * 2 ^ z + up
     limb-is =
         let e : 64 ≡ (64 - z) + z = omega arith in
-        let s : x < 2 ^ (64 - z) = lt-of-mul-lt-mul-right (2 ^ z) (subst (λ (n : ℕ). x * 2 ^ z < n) (ap (λ (n : ℕ). 2 ^ n) e ∙ pow-add 2 (64 - z) z) fits) in
+        let s : x < 2 ^ (64 - z) = lt-of-mul-lt-mul-right (2 ^ z) (subst (λ (n : ℕ). x * 2 ^ z < n) (ap (λ (n : ℕ). 2 ^ n) e ∙ pow-add 2 (64 - z) z) (top .fits)) in
         let n : x / 2 ^ (64 - z) ≡ 0 = div-eq-of-lt s in
-        none raised-limb (2 ^ 64) (x / 2 ^ (64 - z)) (x * 2 ^ z + up) n (limb-raised x up z some less lt (top-few g 0 z some less few (pow-pos z)))
+        none raised-limb (2 ^ 64) (x / 2 ^ (64 - z)) (x * 2 ^ z + up) n (limb-raised x up z some (top .few) lt (top-few g 0 z some (top .few) few (pow-pos z)))
       where
         none : (l B d n : ℕ) → d ≡ 0 → l + B * d ≡ n → l ≡ n
         none l B d n e f = omega (arith, ap (λ (m : ℕ). B * m) e)
 
     guard-is : raised-guard + 2 ^ 64 * up ≡ g * 2 ^ z
-    guard-is = ap (λ (n : ℕ). n + 2 ^ 64 * up) (sym (or-zero-r raised-guard)) ∙ limb-raised g 0 z some less few (pow-pos z) ∙ omega arith
+    guard-is = ap (λ (n : ℕ). n + 2 ^ 64 * up) (sym (or-zero-r raised-guard)) ∙ limb-raised g 0 z some (top .few) few (pow-pos z) ∙ omega arith
 
     pub raised : b ≡ false → Normalized b x g more u (record { limb = raised-limb; guard = raised-guard; more = more; unit = u - z })
     raised e =
         record {
-          first = le-trans first (le-trans (more-than (x * 2 ^ z) up) (le-of-eq (sym limb-is)));
+          first = le-trans (top .first) (le-trans (more-than (x * 2 ^ z) up) (le-of-eq (sym limb-is)));
           carried = λ f. differ f e;
           plain = λ f. (
             whole-plain false raised-limb raised-guard refl ∙ moved (2 ^ 64) (2 ^ z) raised-limb raised-guard up limb-is guard-is ∙ ap (λ (n : ℕ). n * 2 ^ z) (sym (whole-plain b x g e))
