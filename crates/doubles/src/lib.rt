@@ -87,7 +87,7 @@ pub fn to_double(mode: u8, x: Number, xl: &[u64]) -> Converted
     ensures { λ r. ⌜ r ≡ convertedOf mode (operandOf x (now (xl .entry))) ⌝ }
     ensures { λ r. ⌜ told r ≡ toldOf mode (operandOf x (now (xl .entry))) ⌝ }
 {
-    let refusal = checks::check_converted(mode, x, xl);
+    let refusal = admission::check_converted(mode, x, xl);
     if refusal.rule != 0 {
         return Converted::Refused(refusal);
     }
@@ -156,7 +156,7 @@ fn pair_of(down: Converted, up: Converted) -> Enclosed
 pub fn enclose(x: Number, xl: &[u64]) -> Enclosed
     ensures { λ r. ⌜ r ≡ enclosedOf (operandOf x (now (xl .entry))) ⌝ }
 {
-    let refusal = checks::check_alone(x, xl);
+    let refusal = admission::check_alone(x, xl);
     if refusal.rule != 0 {
         return unenclosed(refusal);
     }

@@ -65,7 +65,7 @@ pub fn write_line(x: Number, limbs: &[u64], room: &mut [u8]) -> Written
     ensures { λ r. ⌜ r ≡ writtenOf x (now (limbs .entry)) (length (now (room .entry))) ⌝ }
     ensures { λ r. ⌜ now (room .exit) ≡ roomAfter x (now (limbs .entry)) (now (room .entry)) ⌝ }
 {
-    let refusal = checks::check_alone(x, limbs);
+    let refusal = admission::check_alone(x, limbs);
     if refusal.rule != 0 {
         return Written { count: 0, refusal };
     }

@@ -1,15 +1,9 @@
 // Trim.
+use plain::PlainRun;
 ghost use mathlib.Core.Path.{_≡_};
 ghost use Prim.Native.Nat.{_+_};
 ghost use lib.ListN.{length, drop};
 ghost use Rattle.run.specs.Trimmed.{trimmed};
-
-// A part of a run of limbs that goes to its top: the place of its lowest limb, and how many limbs it has.
-#[repr(C)]
-pub struct PlainRun {
-    pub start: usize,
-    pub count: usize,
-}
 
 // The limbs from the lowest non-zero one to the top, and none if all are 0.
 #[no_mangle]

@@ -1,49 +1,16 @@
 // The stored line: written, its head read, read.
-use crate::plain::PlainNumber;
-use crate::plain::PlainRead;
-use crate::plain::number_from;
-use crate::plain::plain_number;
-use lines::Head;
-use lines::Written;
+use plain::PlainNumber;
+use plain::PlainRead;
+use plain::PlainWritten;
+use plain::number_from;
+use plain::plain_head;
+use plain::plain_written;
 ghost use mathlib.Core.Path.{_≡_};
 ghost use lib.ListN.{length};
 ghost use Rattle.lines.specs.Reading.{headOf, readOf, targetAfter};
 ghost use Rattle.lines.specs.Writing.{writtenOf, roomAfter};
-ghost use Rattle.sheafbuckle.specs.Plain.{numberFrom};
-ghost use Rattle.sheafbuckle.specs.Answers.{headFrom, writtenFrom};
-
-// How many bytes were written, and the refusal.
-#[repr(C)]
-pub struct PlainWritten {
-    pub count: usize,
-    pub rule: u8,
-    pub place: u8,
-}
-
-// The plain fields of what was written.
-fn plain_written(w: Written) -> PlainWritten
-    ensures { λ r. ⌜ writtenFrom r ≡ w ⌝ }
-{
-    let refusal = w.refusal;
-    PlainWritten {
-        count: w.count,
-        rule: refusal.rule,
-        place: refusal.place,
-    }
-}
-
-// The plain fields of a number that a line holds.
-fn plain_head(h: Head) -> PlainRead
-    ensures { λ r. ⌜ headFrom r ≡ h ⌝ }
-{
-    let number = plain_number(h.number);
-    let refusal = h.refusal;
-    PlainRead {
-        number: number,
-        rule: refusal.rule,
-        place: refusal.place,
-    }
-}
+ghost use Rattle.plain.specs.Plain.{numberFrom};
+ghost use Rattle.plain.specs.Answers.{headFrom, writtenFrom};
 
 // The number's line, into the room.
 #[no_mangle]

@@ -57,7 +57,7 @@ pub fn add(
 ) -> Sum
     ensures { λ r. ⌜ Summed plus mode x (now (xl .entry)) y (now (yl .entry)) p (now (target .entry)) (now (target .exit)) r ⌝ }
 {
-    let refusal = checks::check_pair(mode, x, xl, y, yl, p, target.len());
+    let refusal = admission::check_pair(mode, x, xl, y, yl, p, target.len());
     if refusal.rule != 0 {
         return refused(refusal, 0, 0, 0);
     }
@@ -83,7 +83,7 @@ pub fn subtract(
 pub fn reround(mode: u8, x: Number, xl: &[u64], p: u64, target: &mut [u64]) -> Sum
     ensures { λ r. ⌜ Rerounded mode x (now (xl .entry)) p (now (target .entry)) (now (target .exit)) r ⌝ }
 {
-    let refusal = checks::check_single(mode, x, xl, p, target.len());
+    let refusal = admission::check_single(mode, x, xl, p, target.len());
     if refusal.rule != 0 {
         return refused(refusal, 0, 0, 0);
     }
