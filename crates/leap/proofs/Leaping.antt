@@ -16,11 +16,11 @@ use Rattle.limb.proofs.Value.{value-nil, value-split, value-take, value-lt, val
 use Rattle.run.specs.LowLimbs.{LowLimbs}
 use Rattle.run.specs.Sum.{Added, Reversed}
 use Rattle.run.proofs.Parts.{drop-put}
-use Rattle.walk.specs.Column.{readTo, columnOf}
+use Rattle.columns.specs.Column.{readTo, columnOf}
 use Rattle.walk.specs.Window.{headOf, Shows}
 use Rattle.walk.specs.declared.state.Window.{Window}
 use Rattle.walk.proofs.Showing.{show-open}
-use Rattle.walk.proofs.Reading.{read-lt, read-more, read-fewer, column-lt}
+use Rattle.columns.proofs.Reading.{read-lt, read-more, read-fewer, column-lt}
 use Rattle.leap.specs.Leap.{Leap, SumColumns, DifferenceColumns, Leapt, leaptTo}
 
 -- ---- columns as limbs

@@ -13,8 +13,8 @@ use lib.Ieee.{size}
 use Rattle.rounding.specs.Mode.{Way, near, under, over}
 use Rattle.rounding.proofs.Order.{le-or-lt, Cmp, cmp}
 use Rattle.decide.specs.Class.{tie, off, lean, alike, enough}
-use Rattle.walk.specs.Rest.{RestOf}
-use Rattle.walk.specs.declared.rest.Rest.{Rest}
+use Rattle.remnant.specs.Rest.{RestOf}
+use Rattle.remnant.specs.declared.rest.Rest.{Rest}
 use Rattle.settle.specs.Leaning.{rankOf, Flags}
 use Rattle.settle.proofs.Units.{and-swap, odd-even, one-or-even, power-halved}
 

@@ -15,8 +15,8 @@ use Rattle.rounding.proofs.Order.{size-mono, Cmp, cmp, compare-at, le-or-lt}
 use Rattle.decide.specs.Class.{tie, off, lean, alike, enough, settled}
 use Rattle.decide.proofs.Lean.{lean-rest, lean-more}
 use Rattle.decide.proofs.Settled.{enough-true}
-use Rattle.walk.specs.Rest.{RestOf}
-use Rattle.walk.specs.declared.rest.Rest.{Rest}
+use Rattle.remnant.specs.Rest.{RestOf}
+use Rattle.remnant.specs.declared.rest.Rest.{Rest}
 use Rattle.settle.proofs.Units.{odd-even, even-power, before-whole, within, within-quotient, whole-less, size-within}
 use Rattle.settle.proofs.Plus.{too-few, past-unit, settled-is, digits-read}
 

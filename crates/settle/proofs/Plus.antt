@@ -12,8 +12,8 @@ use Rattle.limb.specs.Carry.{bit}
 use Rattle.rounding.specs.Mode.{Way}
 use Rattle.decide.specs.Class.{lean, alike, enough, settled}
 use Rattle.decide.proofs.Settled.{enough-true, enough-le}
-use Rattle.walk.specs.Rest.{RestOf}
-use Rattle.walk.specs.declared.rest.Rest.{Rest}
+use Rattle.remnant.specs.Rest.{RestOf}
+use Rattle.remnant.specs.declared.rest.Rest.{Rest}
 use Rattle.settle.specs.Leaning.{Flags}
 use Rattle.settle.proofs.Units.{and-false}
 use Rattle.settle.proofs.Flags.{flags-of, flags-next, next-below}

@@ -4,11 +4,11 @@ ghost use mathlib.Core.Bool.{true};
 ghost use Prim.Native.Nat.{ℕ, _-_, _<_};
 ghost use Rattle.limb.specs.Carry.{bit};
 ghost use Rattle.decide.specs.Class.{lean, alike, enough, settled};
-ghost use Rattle.walk.specs.Rest.{RestOf};
+ghost use Rattle.remnant.specs.Rest.{RestOf};
 ghost use Rattle.settle.specs.Ways.{wayIs};
 ghost use Rattle.settle.specs.Leaning.{leanIs, rankOf, Flags};
 use crate::rows::Way;
-use walk::Rest;
+use remnant::Rest;
 
 // The sign of selected less exact, on sizes.
 pub enum Lean {

@@ -8,7 +8,7 @@ ghost use Rattle.limb.specs.Carry.{bit};
 ghost use Rattle.numbers.specs.Limits.{leastExponent, mostExponent};
 ghost use Rattle.decide.specs.Class.{enough};
 ghost use Rattle.decide.specs.Range.{carry, shortLeast, shortMost, large?, small?};
-ghost use Rattle.walk.specs.Rest.{RestOf};
+ghost use Rattle.remnant.specs.Rest.{RestOf};
 ghost use Rattle.settle.specs.Ways.{wayIs};
 ghost use Rattle.settle.specs.Rows.{Modest};
 ghost use Rattle.settle.specs.Ends.{isFar, isNext, openDigits, Ones};
@@ -17,7 +17,7 @@ use crate::leaning::enough;
 use crate::leaning::leans;
 use crate::rows::Pair;
 use crate::rows::Way;
-use walk::Rest;
+use remnant::Rest;
 
 // The counted ends of the exponent range.
 const MOST: u64 = 1100585369599;

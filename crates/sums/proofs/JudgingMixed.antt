@@ -22,8 +22,8 @@ use Rattle.decide.specs.Decide.{decideAt}
 use Rattle.decide.proofs.Lean.{lean-rest}
 use Rattle.walk.specs.Window.{shownOf, TailIs, Shows}
 use Rattle.walk.specs.Tail.{Unmixed}
-use Rattle.walk.specs.Rest.{RestOf}
-use Rattle.walk.specs.declared.rest.Rest.{Rest}
+use Rattle.remnant.specs.Rest.{RestOf}
+use Rattle.remnant.specs.declared.rest.Rest.{Rest}
 use Rattle.walk.specs.declared.state.Window.{Window}
 use Rattle.walk.specs.declared.state.Tail.{Tail}
 use Rattle.walk.specs.declared.state.Tail.the-variants.{Empty, Mixed}

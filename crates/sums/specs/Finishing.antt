@@ -14,7 +14,7 @@ use Rattle.place.specs.declared.Placed.{Placed}
 use Rattle.place.specs.Placed.{placedOf, limbsAfter}
 use Rattle.settle.specs.declared.rows.Pair.{Pair}
 use Rattle.walk.specs.declared.state.Window.{Window}
-use Rattle.walk.specs.Column.{readTo}
+use Rattle.columns.specs.Column.{readTo}
 use Rattle.walk.specs.Window.{Fits}
 use Rattle.bridge.specs.Verdict.{holeWay}
 use Rattle.sums.specs.declared.regular.Differ.{Differ}

@@ -442,8 +442,8 @@ fn first_difference(x: Number, xl: &[u64], y: Number, yl: &[u64]) -> Differ
     let n = longer(xl.len() as u64, yl.len() as u64);
     let mut k: u64 = 0;
     while k < n {
-        let u = walk::column(xl, x.precision, 0, k);
-        let v = walk::column(yl, y.precision, 0, k);
+        let u = columns::column(xl, x.precision, 0, k);
+        let v = columns::column(yl, y.precision, 0, k);
         if u < v {
             return Differ::Second(k);
         }
