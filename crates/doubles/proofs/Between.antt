@@ -18,7 +18,7 @@ use Rattle.rounding.specs.Paper.{Le}
 use Rattle.rounding.proofs.Order.{le-or-lt, mul-one-one}
 use Rattle.rounding.proofs.Scale.{exact, chosen-shift}
 use Rattle.rounding.proofs.Paper.{selected, selected-is-down, selected-is-up}
-use Rattle.place.specs.Placed.{ternaryOf}
+use Rattle.location.specs.Ternary.{ternaryOf}
 use Rattle.checks.specs.Check.{accepted}
 use Rattle.checks.proofs.Accepted.{alone-accepted}
 use Rattle.doubles.specs.declared.Converted.{Converted}

@@ -25,7 +25,8 @@ use Rattle.rounding.proofs.Between.{is-large, is-small, is-in}
 use Rattle.rounding.proofs.Scale.{chosen-pos}
 use Rattle.rounding.proofs.Range.{digits-few, digits-first}
 use Rattle.place.specs.declared.Placed.{Placed}
-use Rattle.place.specs.Placed.{ternaryOf, placedOf, limbsAfter}
+use Rattle.place.specs.Placed.{placedOf, limbsAfter}
+use Rattle.location.specs.Ternary.{ternaryOf}
 use Rattle.checks.specs.declared.Refusal.{Refusal}
 use Rattle.checks.specs.Check.{accepted, convertedRefusal, aloneRefusal}
 use Rattle.checks.proofs.Accepted.{accepted-converted, converted-unrefused, accepted-alone, alone-unrefused}

@@ -13,9 +13,9 @@ use Rattle.rounding.specs.Mode.{Way}
 use Rattle.rounding.specs.Select.{unit, chosen, onGrid}
 use Rattle.rounding.proofs.Order.{le-or-lt}
 use Rattle.rounding.proofs.Even.{size-is, size-ge}
-use Rattle.place.specs.declared.Location.{Location}
-use Rattle.place.specs.Location.{fromMiddle, locationOf, goesUp, side}
-use Rattle.place.proofs.Locate.{at-something, selected-at, side-at}
+use Rattle.location.specs.declared.Location.{Location}
+use Rattle.location.specs.Location.{fromMiddle, locationOf, goesUp, side}
+use Rattle.location.proofs.Locating.{at-something, selected-at, side-at}
 
 -- a number strictly between two neighbouring multiples, T and T + 1, of G = 2 ^ g, where T has more than p digits
 module _ (p T g : ℕ) (full : 2 ^ p ≤ T) where

@@ -22,7 +22,7 @@ use Rattle.rounding.proofs.Selection.{multiple}
 use Rattle.rounding.proofs.Even.{size-is, size-ge}
 use Rattle.rounding.proofs.Range.{accepted-only}
 use Rattle.rounding.proofs.Reround.{reround-is, reround-own}
-use Rattle.place.specs.Placed.{ternaryOf}
+use Rattle.location.specs.Ternary.{ternaryOf}
 use Rattle.checks.specs.Number.{operandOf, isZeroKind}
 use Rattle.checks.specs.Check.{accepted}
 use Rattle.checks.proofs.Accepted.{converted-accepted}

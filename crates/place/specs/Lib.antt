@@ -1,4 +1,3 @@
 pub mod Placed
 pub mod Rounded
-pub mod Location
-pub mod Walk
+pub mod InRange

@@ -7,7 +7,7 @@ ghost use lib.Dec.{ltb, leb};
 ghost use lib.ListN.{length, getD};
 ghost use Rattle.numbers.specs.Limits.{leastPrecision, mostPrecision, mostExponent};
 ghost use Rattle.place.specs.Placed.{runRule};
-ghost use Rattle.place.specs.Walk.{Settled};
+ghost use Rattle.place.specs.InRange.{Settled};
 use crate::Placed;
 use crate::PlacedLimb;
 

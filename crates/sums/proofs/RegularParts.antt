@@ -16,7 +16,8 @@ use Rattle.checks.specs.declared.Kind.the-variants.{Regular, Zero}
 use Rattle.checks.specs.Check.{accepted}
 use Rattle.checks.specs.Number.{exponentOf}
 use Rattle.place.specs.declared.Placed.{Placed}
-use Rattle.place.specs.Placed.{placedOf, ternaryOf}
+use Rattle.place.specs.Placed.{placedOf}
+use Rattle.location.specs.Ternary.{ternaryOf}
 use Rattle.settle.specs.declared.rows.Pair.{Pair}
 use Rattle.walk.specs.declared.state.Tail.the-variants.{Empty, Zeros, Ones, Mixed}
 use Rattle.walk.specs.Window.{TailIs}

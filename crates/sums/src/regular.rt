@@ -15,7 +15,7 @@ ghost use Rattle.decide.specs.Class.{enough};
 ghost use Rattle.checks.specs.Number.{operandOf};
 ghost use Rattle.place.specs.Placed.{placedOf};
 ghost use Rattle.place.specs.Rounded.{refusedBy};
-ghost use Rattle.place.specs.Walk.{whole};
+ghost use Rattle.kept.specs.Walk.{whole};
 ghost use Rattle.walk.specs.Window.{TailIs, Shows};
 ghost use Rattle.bridge.specs.Verdict.{pairOf, holeWay};
 ghost use Rattle.sums.specs.Summed.{Reported, sumOf};
