@@ -8,7 +8,7 @@ ghost use Prim.Native.Nat.{min};
 ghost use lib.ListN.{length};
 ghost use Rattle.numbers.specs.Limits.{limbsFor};
 ghost use Rattle.checks.specs.Number.{nothing};
-ghost use Rattle.groups.specs.Written.{mostLimbs, NumberRead};
+ghost use Rattle.desklines.specs.Written.{mostLimbs, NumberRead};
 
 // The limbs of the largest precision.
 pub const MOST_LIMBS: usize = (checks::MOST_PRECISION as usize + 63) / 64;
