@@ -11,7 +11,7 @@ use lib.Pow.{pow-add, pow-pos, pow-mono, shl-lt, shl-shr}
 use borrow.Author.Tests.{lt-ltb, le-ltb}
 use Rattle.limb.specs.Value.{valueOf, valueIn, Below}
 use Rattle.limb.proofs.Value.{value-lt, base-pow}
-use Rattle.run.proofs.Windows.{whole, across}
+use Rattle.shifts.proofs.Windows.{whole, across}
 use Rattle.columns.specs.Column.{readTo, columnOf, limbBelow}
 
 -- moved up by m and n bits at once

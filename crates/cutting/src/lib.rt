@@ -52,7 +52,7 @@ fn at_most_room(n: usize) -> usize
 }
 
 // The same bytes held, counted within their buffers.
-pub(crate) fn within(h: Held) -> Held
+pub fn within(h: Held) -> Held
     ensures { λ r. ⌜ (r .lines ≡ h .lines) × Counts (h .first) (r .first) × Counts (h .second) (r .second) × Counts (h .third) (r .third) ⌝ }
 {
     Held {
@@ -117,7 +117,7 @@ fn take_byte(h: Held, b: u8, first: &mut [u8], second: &mut [u8], third: &mut [u
 }
 
 // Takes bytes up to the group's third LF, or all; each goes to the buffer of its line.
-pub(crate) fn cut(
+pub fn cut(
     held: Held,
     bytes: &[u8],
     first: &mut [u8],

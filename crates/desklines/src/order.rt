@@ -54,7 +54,7 @@ fn digits_hold(line: &[u8]) -> bool
 }
 
 // 8, 9 and 11, in that order.
-pub(crate) fn read_order(line: &[u8]) -> Order
+pub fn read_order(line: &[u8]) -> Order
     ensures { λ r. ⌜ r ≡ orderOf (now (line .entry)) ⌝ }
 {
     if line.len() != ORDER_SIZE {

@@ -44,7 +44,7 @@ fn put_end(out: &mut [u8], at: usize) -> usize
 }
 
 // A refusal's line.
-pub(crate) fn put_refusal(refusal: Refusal, out: &mut [u8]) -> usize
+pub fn put_refusal(refusal: Refusal, out: &mut [u8]) -> usize
     requires { ⌜ longestAnswer ≤ length (now out) ⌝ }
     ensures { λ r. ⌜ Tells (refusalLine refusal) (now (out .entry)) (now (out .exit)) r ⌝ }
 {
@@ -80,7 +80,7 @@ fn put_report(s: Sum, out: &mut [u8], at: usize) -> usize
 }
 
 // A result with its report, or its refusal.
-pub(crate) fn put_sum(s: Sum, limbs: &[u64], out: &mut [u8]) -> usize
+pub fn put_sum(s: Sum, limbs: &[u64], out: &mut [u8]) -> usize
     requires { ⌜ (longestAnswer ≤ length (now out)) × (s .refusal .rule ≡ 0 → WellFormed (operandOf (s .number) (now limbs))) ⌝ }
     ensures { λ r. ⌜ Tells (sumLines s (now (limbs .entry))) (now (out .entry)) (now (out .exit)) r ⌝ }
 {

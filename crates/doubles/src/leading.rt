@@ -27,7 +27,7 @@ fn rest_below(limbs: &[u64], precision: u64) -> bool
     if low != 0 {
         return true;
     }
-    !run::low_is_zero(&limbs[1..], 64 * (n - 3))
+    !shifts::low_is_zero(&limbs[1..], 64 * (n - 3))
 }
 
 pub fn leading(limbs: &[u64], precision: u64) -> Head

@@ -4,7 +4,7 @@ ghost use mathlib.Core.Bool.{false};
 ghost use Prim.Native.Nat.{_+_, _-_, _*_, _/_, _^_, _≤_, _<_};
 ghost use lib.ListN.{length, getD};
 ghost use Rattle.limb.specs.Value.{valueOf};
-ghost use Rattle.run.specs.LowLimbs.{LowLimbs};
+ghost use Rattle.shifts.specs.LowLimbs.{LowLimbs};
 ghost use Rattle.kept.specs.Walk.{whole, Reaches, Holds};
 
 // The zero digits above the first 1 of a limb.

@@ -10,7 +10,7 @@ ghost use mathlib.Core.Path.{_≡_};
 ghost use mathlib.Core.Bool.{false};
 ghost use Prim.Native.Nat.{_+_, _-_, _≤_, _<_};
 ghost use lib.ListN.{length};
-ghost use Rattle.run.specs.LowLimbs.{LowLimbs};
+ghost use Rattle.shifts.specs.LowLimbs.{LowLimbs};
 ghost use Rattle.columns.specs.Column.{readTo};
 ghost use Rattle.leap.specs.Leap.{Within, Leap, SumColumns, DifferenceColumns, Leapt, leaptTo};
 use walk::Tail;
@@ -22,7 +22,7 @@ fn columns_into(target: &mut [u64], limbs: &[u64], gap: u64, k: u64)
     ensures { λ r. ⌜ LowLimbs (length (now (target .entry))) (readTo k gap (now (limbs .entry))) (now (target .exit)) ⌝ }
 {
     let all = 64 * limbs.len() + gap as usize;
-    run::shift_down_into(target, limbs, all - 64 * (k as usize));
+    shifts::shift_down_into(target, limbs, all - 64 * (k as usize));
 }
 
 // The sum of the columns before column k, with a carry in. Returns the carry out.

@@ -165,7 +165,7 @@ pub fn read_line(line: &[u8], target: &mut [u64]) -> Head
         return refused(3, 3);
     }
     if checks::is_zero(x) {
-        run::clear(target);
+        parts::clear(target);
         return head;
     }
     if !form_in(x, line, n) {

@@ -13,7 +13,7 @@ use Rattle.doubles.specs.declared.Enclosed.{Enclosed}
 use Rattle.doubles.specs.declared.FromDouble.{FromDouble}
 use Rattle.lines.specs.declared.Head.{Head}
 use Rattle.lines.specs.declared.Written.{Written}
-use Rattle.run.specs.Trimmed.{trimmed}
+use Rattle.parts.specs.Trimmed.{trimmed}
 use Rattle.sums.specs.declared.report.Sum.{Sum}
 use Rattle.plain.specs.declared.PlainNumber.{PlainNumber}
 use Rattle.plain.specs.declared.PlainSum.{PlainSum}

@@ -37,7 +37,7 @@ fn ones_from(target: &[u64], from: usize, count: u64) -> bool
         i += 1;
         left -= 64;
     }
-    limb_ones(run::limb_at(target, i), 0, left)
+    limb_ones(parts::limb_at(target, i), 0, left)
 }
 
 // The same of the limbs from a place on without the lowest `skip` digits; `count` are there with them.
@@ -45,7 +45,7 @@ fn ones_above(target: &[u64], from: usize, skip: u64, count: u64) -> bool
     requires { ⌜ (from ≤ length (now target)) × (count ≤ 64 * (length (now target) - from)) × (64 * (length (now target) - from) < count + 64) × (skip < 64) × (skip ≤ count) ⌝ }
     ensures { λ r. ⌜ r ≡ eqb (suc (valueOf (drop from (now (target .entry))) / 2 ^ skip)) (2 ^ (count - skip)) ⌝ }
 {
-    let limb = run::limb_at(target, from);
+    let limb = parts::limb_at(target, from);
     if count <= 64 {
         return limb_ones(limb, skip, count - skip);
     }

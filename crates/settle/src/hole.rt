@@ -28,7 +28,7 @@ fn is_power(limbs: &[u64], p: u64) -> bool
     requires { ⌜ Formed p (now limbs) ⌝ }
     ensures { λ r. do let m = valueOf (now (limbs .entry)) / 2 ^ spareBits p in ⌜ r ≡ eqb m (2 ^ (size m - 1)) ⌝ }
 {
-    run::low_is_zero(limbs, 64 * limbs.len() - 1)
+    shifts::low_is_zero(limbs, 64 * limbs.len() - 1)
 }
 
 // The digits of the sum down to the second's first; one fewer where a power of two is lessened.

@@ -10,7 +10,7 @@ use lib.Dec.{ltb, leb, eqb}
 use lib.ListN.{length, take, drop, length-append, length-take, length-drop, drop-of-length-le}
 use lib.Seq.{take-at, take-append-add, drop-at, drop-length, drop-drop, length-take-le, take-all}
 use Rattle.checks.proofs.Tables.{both}
-use Rattle.run.proofs.Parts.{part-is}
+use Rattle.parts.proofs.Parts.{part-is}
 use Rattle.lines.specs.Writing.{onto}
 use Rattle.desklines.specs.Answer.{Answered, longestAnswer}
 use Rattle.desklines.specs.Written.{Answers, Tells}

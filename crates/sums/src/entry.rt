@@ -24,7 +24,7 @@ fn zeros(mode: u8, x: Number, y: Number, p: u64, target: &mut [u64]) -> Sum
     requires { ⌜ Room p (length (now target)) ⌝ }
     ensures { λ r. ⌜ ((xl yl : List ℕ) → operandOf x xl .isZero ≡ true → operandOf y yl .isZero ≡ true → Reported plus (modeOf mode) p (operandOf x xl) (operandOf y yl) (now (target .exit)) r) ⌝ }
 {
-    run::clear(target);
+    parts::clear(target);
     zero(zero_sign(mode, x.negative, y.negative), p, 0, 0, 0)
 }
 

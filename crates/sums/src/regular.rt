@@ -196,7 +196,7 @@ fn refuse(rule: u8, target: &mut [u64]) -> Placed
     ensures { λ r. ⌜ r ≡ refusedBy rule ⌝ }
     ensures { λ r. ⌜ now (target .exit) ≡ replicate (length (now (target .entry))) 0 ⌝ }
 {
-    run::clear(target);
+    parts::clear(target);
     Placed {
         rule: rule,
         exponent: 0,
@@ -463,7 +463,7 @@ fn unlike(mode: u8, x: Number, xl: &[u64], y: Number, yl: &[u64], p: u64, target
     let d = first_difference(x, xl, y, yl);
     match d {
         Differ::Never(k) => {
-            run::clear(target);
+            parts::clear(target);
             let sign = zero_sign(mode, x.negative, y.negative);
             zero(sign, p, k, used(k, 0, xl.len()), used(k, 0, yl.len()))
         }
