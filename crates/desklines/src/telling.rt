@@ -89,7 +89,7 @@ pub fn put_sum(s: Sum, limbs: &[u64], out: &mut [u8]) -> usize
         return put_refusal(refusal, out);
     }
     let number = s.number;
-    let written = lines::write_line(number, limbs, out);
+    let written = writer::write_line(number, limbs, out);
     put_report(s, out, written.count)
 }
 

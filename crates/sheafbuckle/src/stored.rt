@@ -22,7 +22,7 @@ pub extern "C" fn sheafbuckle_write_line(
     ensures { λ r. ⌜ writtenFrom r ≡ writtenOf (numberFrom x) (now (limbs .entry)) (length (now (room .entry))) ⌝ }
     ensures { λ r. ⌜ now (room .exit) ≡ roomAfter (numberFrom x) (now (limbs .entry)) (now (room .entry)) ⌝ }
 {
-    plain_written(lines::write_line(number_from(x), limbs, room))
+    plain_written(writer::write_line(number_from(x), limbs, room))
 }
 
 // The number that a line holds, without its limbs.
@@ -30,7 +30,7 @@ pub extern "C" fn sheafbuckle_write_line(
 pub extern "C" fn sheafbuckle_read_head(line: &[u8]) -> PlainRead
     ensures { λ r. ⌜ headFrom r ≡ headOf (now (line .entry)) ⌝ }
 {
-    plain_head(lines::read_head(line))
+    plain_head(reader::read_head(line))
 }
 
 // The number that a line holds, its limbs into the target.
@@ -39,5 +39,5 @@ pub extern "C" fn sheafbuckle_read_line(line: &[u8], target: &mut [u64]) -> Plai
     ensures { λ r. ⌜ headFrom r ≡ readOf (length (now (target .entry))) (now (line .entry)) ⌝ }
     ensures { λ r. ⌜ now (target .exit) ≡ targetAfter (now (line .entry)) (now (target .entry)) ⌝ }
 {
-    plain_head(lines::read_line(line, target))
+    plain_head(reader::read_line(line, target))
 }
