@@ -35,7 +35,7 @@ use Rattle.settle.specs.declared.rows.Pair.{Pair}
 use Rattle.settle.specs.declared.rows.Row.{Row}
 use Rattle.settle.specs.declared.rows.Way as code
 use Rattle.settle.specs.declared.rows.Row.the-variants.{Exact, Plus, Minus, Hole}
-use Rattle.settle.proofs.Ranges.{not-large, not-small}
+use Rattle.bounds.proofs.Ranges.{not-large, not-small}
 use Rattle.settle.proofs.Units.{and-false}
 use Rattle.bridge.specs.Verdict.{pairOf, Ordered, Leads, readSum, settledBy, refusedBy, testBy, verdict, inner?, isFar, openDigits}
 use Rattle.bridge.proofs.Decision.{decision}

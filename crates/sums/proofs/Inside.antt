@@ -24,8 +24,8 @@ use Rattle.walk.specs.Window.{Shows}
 use Rattle.remnant.specs.declared.rest.Rest.{Rest}
 use Rattle.walk.specs.declared.state.Window.{Window}
 use Rattle.walk.proofs.Showing.{whole-shows}
-use Rattle.settle.proofs.Plus.{settled-is}
-use Rattle.settle.proofs.Minus.{minus-under, minus-over, minus-near}
+use Rattle.lean.proofs.Plus.{settled-is}
+use Rattle.lean.proofs.Minus.{minus-under, minus-over, minus-near}
 use Rattle.sums.specs.Course.{Full, Inside}
 use Rattle.sums.proofs.AtOnce.{head-is, top-power}
 

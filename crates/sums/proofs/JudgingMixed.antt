@@ -31,8 +31,8 @@ use Rattle.walk.proofs.Showing.{columns-guarded}
 use Rattle.settle.specs.Rows.{rowOf}
 use Rattle.settle.specs.declared.rows.Row.{Row}
 use Rattle.settle.specs.declared.rows.Row.the-variants.{Exact, Plus, Minus, Hole}
-use Rattle.settle.proofs.Plus.{settled-is}
-use Rattle.settle.proofs.Minus.{minus-under, minus-over, minus-near}
+use Rattle.lean.proofs.Plus.{settled-is}
+use Rattle.lean.proofs.Minus.{minus-under, minus-over, minus-near}
 use Rattle.bridge.specs.Verdict.{pairOf, readSum, settledBy, testBy, verdict}
 use Rattle.bridge.proofs.Decision.{decision}
 use Rattle.bridge.proofs.Theorems.{hole-place}

@@ -22,9 +22,9 @@ use Rattle.remnant.specs.Digits.{ShowsDigits}
 use Rattle.remnant.specs.Ones.{OnesFirst}
 use Rattle.walk.specs.declared.state.Window.{Window}
 use Rattle.walk.proofs.Showing.{columns-open, columns-guarded, whole-shows}
-use Rattle.settle.specs.Ends.{isFar, isNext, openDigits, Ones}
+use Rattle.bounds.specs.Ends.{isFar, isNext, openDigits, Ones}
 use Rattle.settle.specs.declared.rows.Pair.{Pair}
-use Rattle.settle.proofs.Ranges.{not-large, not-small}
+use Rattle.bounds.proofs.Ranges.{not-large, not-small}
 use Rattle.settle.proofs.Units.{and-false}
 use Rattle.bridge.specs.Verdict.{refusedBy}
 use Rattle.sums.specs.declared.going.Verdict.{Verdict}

@@ -16,8 +16,8 @@ ghost use Rattle.columns.specs.Column.{columnOf};
 ghost use Rattle.remnant.specs.Rest.{RestOf};
 ghost use Rattle.walk.specs.Window.{Fits, Shows};
 ghost use Rattle.settle.specs.Ways.{wayIs};
-ghost use Rattle.settle.specs.Ends.{Ones};
-ghost use Rattle.settle.specs.Hole.{InHole, Signs};
+ghost use Rattle.bounds.specs.Ends.{Ones};
+ghost use Rattle.hole.specs.Hole.{InHole, Signs};
 ghost use Rattle.settle.specs.declared.rows.Way as code;
 ghost use Rattle.bridge.specs.Verdict.{pairOf, refusedBy};
 ghost use Rattle.sums.specs.Ready.{Room};
@@ -78,12 +78,12 @@ fn refused_sum(way: Way, x: Rest, w: Window, target: &[u64], p: u64, pair: Pair,
     requires { ⌜ Room p (length (now target)) × Measured pair w (now target) k ⌝ }
     ensures { λ r. ⌜ ((D : ℕ) → Shows w (now (target .entry)) k D → Moderate pair k D → RestOf p D x → pair .same ≡ true → r ≡ refusedAs pair (refusedBy (wayIs way) p pair k D)) ⌝ }
 {
-    if !settle::is_high(pair.top) {
+    if !bounds::is_high(pair.top) {
         return Verdict::Open;
     }
     let digits = digits_in(w, target, pair, k);
     let ones = ones_in(w, target, pair, k, digits, p);
-    if settle::too_large(way, x, digits, ones, p, pair, k) {
+    if bounds::too_large(way, x, digits, ones, p, pair, k) {
         Verdict::Refused(6)
     } else {
         Verdict::Open
@@ -106,12 +106,12 @@ fn refused_difference(
     if 64 * k <= pair.gap {
         return Verdict::Open;
     }
-    if !settle::is_low(pair.top, k) {
+    if !bounds::is_low(pair.top, k) {
         return Verdict::Open;
     }
     let digits = digits_in(w, target, pair, k);
     let ones = ones_in(w, target, pair, k, digits, p);
-    if settle::too_small(way, x, digits, ones, p, pair, k) {
+    if bounds::too_small(way, x, digits, ones, p, pair, k) {
         Verdict::Refused(7)
     } else {
         Verdict::Open
@@ -146,7 +146,7 @@ fn judge_plus(
     ensures { λ r. ⌜ ((D : ℕ) → Shows w (now (target .entry)) k D → Moderate pair k D → r ≡ verdictAs pair (settled (wayIs way) p D least (bit next) most) least (refusedBy (wayIs way) p pair k D)) ⌝ }
 {
     let x = remnant::rest_of(w, target, p);
-    if settle::settled_plus(way, x, least, next, most) {
+    if lean::settled_plus(way, x, least, next, most) {
         Verdict::Fixed(least)
     } else {
         refused(way, x, w, target, p, pair, k)
@@ -167,7 +167,7 @@ fn judge_minus(
     ensures { λ r. ⌜ ((D : ℕ) → Shows w (now (target .entry)) k D → Moderate pair k D → r ≡ verdictAs pair (settled (wayIs way) p (D - 1) true 1 most) most (refusedBy (wayIs way) p pair k D)) ⌝ }
 {
     let x = remnant::rest_of(w, target, p);
-    if settle::settled_minus(way, x, most) {
+    if lean::settled_minus(way, x, most) {
         Verdict::Fixed(most)
     } else {
         refused(way, x, w, target, p, pair, k)
@@ -179,7 +179,7 @@ fn judge_hole(way: Way, p: u64, pair: Pair, first: &[u64]) -> Verdict
     requires { ⌜ InHole pair (now first) × (p ≤ 2 ^ 20) ⌝ }
     ensures { λ r. ⌜ ((o : Mode) (a b : Bool) → Signs o a b pair way → r ≡ cond (holeBySize o p a b (valueOf (now (first .entry)) / 2 ^ spareBits (pair .first)) (pair .gap - pair .first)) verdict.InHole verdict.Open) ⌝ }
 {
-    if settle::hole_fixed(way, p, pair, first) {
+    if hole::hole_fixed(way, p, pair, first) {
         Verdict::InHole
     } else {
         Verdict::Open
