@@ -13,7 +13,7 @@ use Rattle.location.specs.Ternary.{ternaryOf}
 use Rattle.checks.specs.Check.{convertedRefusal}
 use Rattle.doubles.specs.declared.Converted.{Converted}
 use Rattle.doubles.specs.declared.Converted.the-variants.{Exact, Below, Above, Refused}
-use Rattle.doubles.specs.Double.{doublePrecision, doubleLeast, doubleMost, signBit, packed, double}
+use Rattle.unpack.specs.Double.{doublePrecision, doubleLeast, doubleMost, signBit, packed, double}
 
 -- ---- any format: so many bits, and exponents from least to most, counted
 

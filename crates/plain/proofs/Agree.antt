@@ -10,7 +10,7 @@ use Rattle.checks.specs.declared.Kind.{Kind}
 use Rattle.checks.specs.declared.Kind.the-variants.{Regular, Zero}
 use Rattle.checks.specs.Number.{isZeroKind}
 use Rattle.doubles.specs.declared.Enclosed.{Enclosed}
-use Rattle.doubles.specs.declared.FromDouble.{FromDouble}
+use Rattle.unpack.specs.declared.FromDouble.{FromDouble}
 use Rattle.lines.specs.declared.Head.{Head}
 use Rattle.lines.specs.declared.Written.{Written}
 use Rattle.parts.specs.Trimmed.{trimmed}

@@ -12,7 +12,7 @@ use Rattle.order.specs.declared.Compared.{Compared}
 use Rattle.order.specs.Order.{numberOf, comparedOf}
 use Rattle.doubles.specs.declared.Converted.{Converted}
 use Rattle.doubles.specs.declared.Enclosed.{Enclosed}
-use Rattle.doubles.specs.declared.FromDouble.{FromDouble}
+use Rattle.unpack.specs.declared.FromDouble.{FromDouble}
 use Rattle.doubles.specs.Convert.{convertedOf}
 use Rattle.doubles.specs.Enclose.{enclosedOf}
 use Rattle.lines.specs.declared.Head.{Head}

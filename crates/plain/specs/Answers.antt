@@ -7,8 +7,8 @@ use Rattle.order.specs.Order.{numberOf}
 use Rattle.doubles.specs.declared.Converted.{Converted}
 use Rattle.doubles.specs.declared.Converted.the-variants.{Exact, Below, Above, Refused}
 use Rattle.doubles.specs.declared.Enclosed.{Enclosed}
-use Rattle.doubles.specs.declared.FromDouble.{FromDouble}
-use Rattle.doubles.specs.Double.{signBit, double}
+use Rattle.unpack.specs.declared.FromDouble.{FromDouble}
+use Rattle.unpack.specs.Double.{signBit, double}
 use Rattle.lines.specs.declared.Head.{Head}
 use Rattle.lines.specs.declared.Written.{Written}
 use Rattle.plain.specs.declared.PlainOrder.{PlainOrder}

@@ -12,7 +12,7 @@ ghost use lib.ListN.{length};
 ghost use Rattle.checks.specs.Number.{operandOf};
 ghost use Rattle.doubles.specs.Convert.{convertedOf};
 ghost use Rattle.doubles.specs.Enclose.{enclosedOf};
-ghost use Rattle.doubles.specs.Read.{readOf, readLimbs};
+ghost use Rattle.unpack.specs.Read.{readOf, readLimbs};
 ghost use Rattle.plain.specs.Plain.{numberFrom};
 ghost use Rattle.plain.specs.Answers.{doubleTold, enclosedFrom, readFrom};
 
@@ -38,5 +38,5 @@ pub extern "C" fn sheafbuckle_from_double(d: f64, target: &mut [u64]) -> PlainRe
     ensures { λ r. ⌜ readFrom r ≡ readOf (length (now (target .entry))) d ⌝ }
     ensures { λ r. ⌜ now (target .exit) ≡ readLimbs (now (target .entry)) d ⌝ }
 {
-    plain_read(doubles::from_double(d, target))
+    plain_read(unpack::from_double(d, target))
 }

@@ -1,6 +1,6 @@
 -- `plain::plain_double`: by cases, as the definition. Assumes nothing.
 use Rattle.plain.specs.Answers.{doubleTold}
-use Rattle.doubles.specs.Double.{double, signBit}
+use Rattle.unpack.specs.Double.{double, signBit}
 use borrow.Author.Needs.{needs}
 use Rattle.plain.proofs.plain_double.Statement.{statement}
 use Rattle.plain.proofs.plain_double.Tie as tie
