@@ -17,7 +17,7 @@ use Rattle.depth.specs.Columns.{topExponent}
 use Rattle.depth.specs.Read.{unread}
 use Rattle.depth.proofs.Columns.{digits-counted}
 use Rattle.depth.proofs.Place.{scale-first, scale-second}
-use Rattle.depth.proofs.Reaching.{end}
+use Rattle.depth.proofs.Reach.{end}
 use Rattle.decide.specs.Range.{large?, small?, orSmall}
 use Rattle.decide.specs.Table.{some?, allRead, sameSigns, unlikeSigns, unlikePair, seenPair, farPair, farSame, farUnlike, holeBySize, sameRow, unlikeRow}
 use Rattle.decide.specs.Decide.{reaches?, readPart, leftOver, beyond, decideAt}

@@ -14,7 +14,7 @@ use Rattle.depth.specs.Read.{unread}
 use Rattle.numbers.specs.Limits.{leastExponent}
 use Rattle.rounding.proofs.Selection.{multiple}
 use Rattle.numbers.proofs.Digits.{mantissa-lt, mantissa-ge, precision-two}
-use Rattle.depth.proofs.Reaching.{digitsAt, end}
+use Rattle.depth.proofs.Reach.{digitsAt, end}
 use Rattle.depth.proofs.Amounts.{amount-end}
 use Rattle.depth.proofs.Meet.{least-is}
 use Rattle.decide.specs.Table.{some?, farPair, holePair, holeBySize}

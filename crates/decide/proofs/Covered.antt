@@ -20,7 +20,7 @@ use Rattle.depth.specs.Depth.{plus, Fixed}
 use Rattle.decide.specs.Decide.{reaches?, readPart, leftOver}
 use Rattle.depth.proofs.Columns.{digits-counted}
 use Rattle.depth.proofs.Place.{top-swap, top-first, top-second, scale-first, scale-second, other-top}
-use Rattle.depth.proofs.Reaching.{end, at-most}
+use Rattle.depth.proofs.Reach.{end, at-most}
 use Rattle.depth.proofs.Amounts.{amount-end}
 use Rattle.depth.proofs.EndsDecide.{up}
 use Rattle.decide.proofs.Settled.{rep-between}

@@ -16,7 +16,7 @@ use Rattle.depth.specs.Read.{unread}
 use Rattle.depth.specs.Depth.{plus, result, Fixed, Open, Deciding}
 use Rattle.depth.proofs.Columns.{read-of}
 use Rattle.depth.proofs.Place.{top-swap, top-first, top-second, scale-first, scale-second, other-top}
-use Rattle.depth.proofs.Reaching.{end}
+use Rattle.depth.proofs.Reach.{end}
 use Rattle.depth.proofs.Amounts.{low-like}
 use Rattle.depth.proofs.EndsDecide.{lx, ly, up, down, like-first, like-second, at, add-is, Alike, own-first, own-second, other-first, other-second, fixed-if, fixed-or}
 use Rattle.depth.proofs.Least.{not-both}

@@ -14,7 +14,7 @@ use Rattle.rounding.proofs.Even.{size-is}
 use Rattle.rounding.proofs.Scale.{size-shift}
 use Rattle.numbers.proofs.Digits.{mantissa-lt, precision-two}
 use Rattle.depth.proofs.Columns.{digits-counted}
-use Rattle.depth.proofs.Reaching.{base, digitsAt, end, at-least, at-most}
+use Rattle.depth.proofs.Reach.{base, digitsAt, end, at-least, at-most}
 use Rattle.depth.proofs.Amounts.{amount-end, amount-nil, like-end}
 use Rattle.depth.proofs.Meet.{at-cut, base-grid, low-grid}
 use Rattle.decide.proofs.Lean.{zero-or}

@@ -9,7 +9,7 @@ use Rattle.depth.specs.Columns.{Agree, Like}
 use Rattle.depth.specs.Read.{unread}
 use Rattle.numbers.proofs.Digits.{put, put-mantissa, put-well-formed}
 use Rattle.depth.proofs.Columns.{like-by}
-use Rattle.depth.proofs.Reaching.{digitsAt, end, at-least, at-most, read-at, between-ends}
+use Rattle.depth.proofs.Reach.{digitsAt, end, at-least, at-most, read-at, between-ends}
 
 pub amount-nil : (s : ℕ) (z : Operand) → z .isZero ≡ true → amount s z ≡ 0
 unfolding amount

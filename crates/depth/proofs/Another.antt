@@ -10,7 +10,7 @@ use Rattle.numbers.specs.Operand.{Operand, mantissa, WellFormed}
 use Rattle.numbers.proofs.Digits.{precision-two}
 use Rattle.depth.specs.Columns.{Like}
 use Rattle.depth.specs.Read.{unread}
-use Rattle.depth.proofs.Reaching.{end, digitsAt}
+use Rattle.depth.proofs.Reach.{end, digitsAt}
 use Rattle.depth.proofs.Amounts.{like-end, mantissa-end}
 
 -- ---- the ends differ where a digit is unread

@@ -16,7 +16,7 @@ use Rattle.rounding.proofs.Ends.{all-between, plus as positive, minus as negati
 use Rattle.depth.specs.Columns.{topExponent, Like}
 use Rattle.depth.specs.Depth.{plus, result, Fixed, Open}
 use Rattle.depth.proofs.Place.{top-first, top-second, scale-first, scale-second}
-use Rattle.depth.proofs.Reaching.{end}
+use Rattle.depth.proofs.Reach.{end}
 use Rattle.depth.proofs.Amounts.{like-self, like-end, amount-end, amount-nil, shares}
 use Rattle.depth.proofs.Meet.{meet}
 

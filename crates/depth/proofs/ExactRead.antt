@@ -20,7 +20,7 @@ use Rattle.rounding.proofs.Selection.{chosen-rep}
 use Rattle.rounding.proofs.Between.{digits-one, turned-one}
 use Rattle.rounding.proofs.Ends.{plus as positive, minus as negative, nought, regular}
 use Rattle.depth.proofs.Place.{top-first, top-second}
-use Rattle.depth.proofs.Reaching.{end, digitsAt}
+use Rattle.depth.proofs.Reach.{end, digitsAt}
 use Rattle.depth.proofs.Amounts.{like-end, like-self, amount-end}
 use Rattle.depth.proofs.Another.{ends-meet}
 use Rattle.depth.proofs.EndsDecide.{add-is, own, other}

@@ -12,7 +12,7 @@ use Rattle.rounding.proofs.Order.{le-or-lt}
 use Rattle.rounding.proofs.Selection.{multiple}
 use Rattle.numbers.proofs.Digits.{mantissa-ge, precision-two}
 use Rattle.depth.proofs.Columns.{digits-counted}
-use Rattle.depth.proofs.Reaching.{base, digitsAt, at-least, at-most}
+use Rattle.depth.proofs.Reach.{base, digitsAt, at-least, at-most}
 
 -- ---- weights, from s: p digits at the weight a and above, d columns' bits below the top
 
