@@ -21,7 +21,7 @@ use Rattle.decide.proofs.Lean.{Part}
 use Rattle.decide.proofs.Rows.{sub-mul}
 use Rattle.decide.proofs.Settled.{Alike, Span, Enough, enough-true, and-true, settled-if}
 use Rattle.decide.proofs.Decision.{decides-fixed, answer-read}
-use Rattle.walk.specs.Column.{readTo}
+use Rattle.columns.specs.Column.{readTo}
 use Rattle.settle.specs.Rows.{rowOf}
 use Rattle.settle.specs.declared.rows.Pair.{Pair}
 use Rattle.settle.specs.declared.rows.Row.{Row}

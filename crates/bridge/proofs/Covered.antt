@@ -19,7 +19,7 @@ use Rattle.depth.specs.Bound.{columnsFor, farColumns, deepest}
 use Rattle.decide.specs.Class.{off, lean, alike, enough, settled}
 use Rattle.decide.proofs.Lean.{lean-exact, lean-more}
 use Rattle.decide.proofs.Settled.{Enough, enough-le, and-true}
-use Rattle.walk.specs.Column.{readTo}
+use Rattle.columns.specs.Column.{readTo}
 use Rattle.settle.specs.Rows.{rowOf}
 use Rattle.settle.specs.declared.rows.Row.{Row}
 use Rattle.settle.specs.declared.rows.Row.the-variants.{Exact, Plus, Minus, Hole}

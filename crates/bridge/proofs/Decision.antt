@@ -10,7 +10,7 @@ use Rattle.rounding.proofs.Order.{le-or-lt}
 use Rattle.decide.specs.Table.{some?, allRead, holeBySize}
 use Rattle.decide.specs.Decide.{decideAt}
 use Rattle.decide.proofs.Lean.{zero-or}
-use Rattle.walk.specs.Column.{readTo}
+use Rattle.columns.specs.Column.{readTo}
 use Rattle.settle.specs.Rows.{rowOf}
 use Rattle.settle.specs.declared.rows.Row.{Row}
 use Rattle.settle.specs.declared.rows.Row.the-variants.{Exact, Plus, Minus, Hole}

@@ -23,7 +23,7 @@ use Rattle.depth.proofs.Amounts.{amount-is}
 use Rattle.depth.proofs.Columns.{digits-counted}
 use Rattle.decide.specs.Table.{some?, odd?, hole?, holeBySize}
 use Rattle.decide.proofs.Settled.{Enough}
-use Rattle.walk.specs.Column.{readTo}
+use Rattle.columns.specs.Column.{readTo}
 use Rattle.settle.specs.declared.rows.Pair.{Pair}
 use Rattle.bridge.specs.Verdict.{pairOf, Ordered, readSum, middle?, holeWay}
 use Rattle.bridge.proofs.Read.{size-mantissa, read-whole}

@@ -20,8 +20,8 @@ use Rattle.depth.specs.Read.{unread}
 use Rattle.depth.proofs.Columns.{digits-counted}
 use Rattle.decide.specs.Decide.{readPart}
 use Rattle.decide.proofs.Beyond.{read-is}
-use Rattle.walk.specs.Column.{readTo}
-use Rattle.walk.proofs.Reading.{read-fewer}
+use Rattle.columns.specs.Column.{readTo}
+use Rattle.columns.proofs.Reading.{read-fewer}
 
 -- ---- digits moved up and down
 

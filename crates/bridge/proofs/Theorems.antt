@@ -14,7 +14,7 @@ use Rattle.depth.specs.Depth.{plus, Deciding}
 use Rattle.decide.specs.Table.{holeBySize}
 use Rattle.decide.specs.Decide.{decideAt}
 use Rattle.decide.proofs.Decision.{depth-decided}
-use Rattle.walk.specs.Column.{readTo}
+use Rattle.columns.specs.Column.{readTo}
 use Rattle.settle.specs.Rows.{rowOf}
 use Rattle.settle.specs.declared.rows.Row.{Row}
 use Rattle.settle.specs.declared.rows.Row.the-variants.{Exact, Plus, Minus, Hole}

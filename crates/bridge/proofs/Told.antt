@@ -29,7 +29,7 @@ use Rattle.decide.proofs.ReadPart.{seen-is, seen-held, seen-pos}
 use Rattle.decide.proofs.Beyond.{read-is}
 use Rattle.decide.proofs.Decision.{reached, not-reaching, read-nil, left-is}
 use Rattle.decide.proofs.HoleVerdict.{InHole, hole-by-size}
-use Rattle.walk.specs.Column.{readTo}
+use Rattle.columns.specs.Column.{readTo}
 use Rattle.settle.specs.Rows.{rowOf}
 use Rattle.settle.specs.declared.rows.Pair.{Pair}
 use Rattle.settle.specs.declared.rows.Row.{Row}

@@ -9,8 +9,8 @@ use Rattle.rounding.specs.Mode.{Mode, Way, way, near, under, over}
 use Rattle.decide.specs.Class.{settled}
 use Rattle.decide.specs.Range.{large?, small?}
 use Rattle.decide.specs.Table.{holeBySize}
-use Rattle.walk.specs.Column.{readTo}
-unfoldable pub use Rattle.settle.specs.Ends.{isFar, openDigits}
+use Rattle.columns.specs.Column.{readTo}
+unfoldable pub use Rattle.bounds.specs.Ends.{isFar, openDigits}
 use Rattle.settle.specs.declared.rows.Pair.{Pair}
 use Rattle.settle.specs.declared.rows.Row.{Row}
 use Rattle.settle.specs.declared.rows.Row.the-variants.{Exact, Plus, Minus, Hole}

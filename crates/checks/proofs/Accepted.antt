@@ -12,7 +12,7 @@ use Rattle.numbers.specs.Limits.{leastPrecision, mostPrecision, bias, leastExpo
 use Rattle.numbers.specs.Operand.{Operand, spareBits, WellFormed}
 use Rattle.numbers.proofs.Limits.{two-digits, limbs-hold}
 use Rattle.checks.specs.Check.{accepted, modeHolds, precisionHolds, lengthHolds, exponentHolds, topBitHolds, spareBitsHold, formHolds, pairRefusal, singleRefusal, comparedRefusal, convertedRefusal, aloneRefusal}
-use Rattle.checks.specs.Judged.{TargetPasses, Passes}
+use Rattle.checks.specs.Passes.{TargetPasses, Passes}
 use Rattle.checks.proofs.Tables.{accepted-all, unrefused-accepted, both}
 use Rattle.checks.proofs.Passing.{pair-passes, single-passes, compared-passes, converted-passes, alone-passes}
 use Rattle.checks.proofs.Tests.{spare-lt}

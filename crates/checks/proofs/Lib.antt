@@ -1,5 +1,4 @@
 pub mod Signed
-pub mod Places
 pub mod Tests
 pub mod Tables
 pub mod Form

@@ -13,7 +13,7 @@ use Rattle.checks.specs.declared.Number.{Number}
 use Rattle.checks.specs.declared.Refusal.{Refusal}
 use Rattle.checks.specs.Number.{isZeroKind, operandOf}
 use Rattle.checks.specs.Check.{accepted, modeHolds, precisionHolds, lengthHolds, exponentHolds, topBitHolds, spareBitsHold, formHolds, pairRefusal, singleRefusal, comparedRefusal, convertedRefusal, aloneRefusal}
-use Rattle.checks.specs.Judged.{TargetPasses, Passes}
+use Rattle.checks.specs.Passes.{TargetPasses, Passes}
 use Rattle.checks.proofs.Tables.{all-accepted, both}
 
 pub pair-passes : (mode : ℕ) (x y : Operand) (p n : ℕ) → modeHolds mode ≡ true → Passes x → Passes y → TargetPasses p n → pairRefusal mode x y p n ≡ accepted

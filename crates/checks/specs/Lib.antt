@@ -1,3 +1,3 @@
 pub mod Number
 pub mod Check
-pub mod Judged
+pub mod Passes

@@ -1,13 +1,9 @@
-// Numbers as a caller hands them over, and refusals 1 to 5 in their one order.
+// Numbers as a caller hands them over, and tests 2 to 5, each alone.
 ghost use mathlib.Core.Path.{_≡_};
-ghost use mathlib.Core.Bool.{true, _&&_};
 ghost use mathlib.Core.List.{[], _∷_};
-ghost use Prim.Native.Nat.{_<_};
-ghost use lib.ListN.{length};
 ghost use Rattle.numbers.specs.Limits.{counted, limbsFor};
 ghost use Rattle.checks.specs.Number.{isZeroKind, operandOf, turnedNumber, exponentOf, fetched};
-ghost use Rattle.checks.specs.Check.{accepted, modeHolds, precisionHolds, lengthHolds, exponentHolds, topBitHolds, spareBitsHold, formHolds, pairRefusal, singleRefusal, comparedRefusal, convertedRefusal, aloneRefusal};
-ghost use Rattle.checks.specs.Judged.{judgedOf, judgedTarget, firstPlace, refusalOf, TargetPasses, Passes};
+ghost use Rattle.checks.specs.Check.{precisionHolds, lengthHolds, exponentHolds, topBitHolds, spareBitsHold, formHolds};
 
 pub enum Kind {
     Regular,
@@ -35,7 +31,7 @@ pub const LEAST_PRECISION: u64 = 2;
 pub const MOST_PRECISION: u64 = 4096;
 
 // 2^63: the first digit of a limb.
-const FIRST_DIGIT: u64 = 9223372036854775808;
+pub const FIRST_DIGIT: u64 = 9223372036854775808;
 
 // Exponents are counted from -2^40: what 0, the least and the most exponent of a regular number are counted as.
 pub const BIAS: u64 = 1099511627776;
@@ -150,7 +146,7 @@ fn top_bit_holds(l: &[u64]) -> bool
 }
 
 // 5: the bits of a lowest limb below the last of p digits are 0.
-fn low_holds(p: u64, low: u64) -> bool
+pub fn low_holds(p: u64, low: u64) -> bool
     ensures { λ r. ⌜ r ≡ spareBitsHold p (low ∷ []) ⌝ }
 {
     let spare = (64 - p % 64) % 64;
@@ -175,261 +171,4 @@ pub fn form_holds(x: Number, l: &[u64]) -> bool
         return true;
     }
     top_bit_holds(l) & spare_bits_hold(x.precision, l)
-}
-
-// What tests 2 to 5 say of an operand or a target: true where the test holds.
-struct Judged {
-    precision: bool,
-    limbs: bool,
-    exponent: bool,
-    form: bool,
-}
-
-fn judge(x: Number, l: &[u64]) -> Judged
-    ensures { λ r. ⌜ r ≡ judgedOf (operandOf x (now (l .entry))) ⌝ }
-{
-    Judged {
-        precision: precision_holds(x.precision),
-        limbs: length_holds(x.precision, l.len()),
-        exponent: exponent_holds(x),
-        form: form_holds(x, l),
-    }
-}
-
-fn judge_target(p: u64, n: usize) -> Judged
-    ensures { λ r. ⌜ r ≡ judgedTarget p n ⌝ }
-{
-    Judged {
-        precision: precision_holds(p),
-        limbs: length_holds(p, n),
-        exponent: true,
-        form: true,
-    }
-}
-
-// The first place where a rule is broken: 1, 2 or 3; 0 where it holds in all.
-fn first_place(first: bool, second: bool, target: bool) -> u8
-    ensures { λ r. ⌜ r ≡ firstPlace first second target ⌝ }
-{
-    if !first {
-        return 1;
-    }
-    if !second {
-        return 2;
-    }
-    if !target {
-        return 3;
-    }
-    0
-}
-
-// The first rule that is broken, and its first place.
-fn first_refusal(mode: bool, x: Judged, y: Judged, t: Judged) -> Refusal
-    ensures { λ r. ⌜ r ≡ refusalOf mode x y t ⌝ }
-{
-    if !mode {
-        return Refusal { rule: 1, place: 0 };
-    }
-    let precision = first_place(x.precision, y.precision, t.precision);
-    if precision != 0 {
-        return Refusal {
-            rule: 2,
-            place: precision,
-        };
-    }
-    let limbs = first_place(x.limbs, y.limbs, t.limbs);
-    if limbs != 0 {
-        return Refusal {
-            rule: 3,
-            place: limbs,
-        };
-    }
-    let exponent = first_place(x.exponent, y.exponent, true);
-    if exponent != 0 {
-        return Refusal {
-            rule: 4,
-            place: exponent,
-        };
-    }
-    let form = first_place(x.form, y.form, true);
-    if form != 0 {
-        return Refusal {
-            rule: 5,
-            place: form,
-        };
-    }
-    Refusal { rule: 0, place: 0 }
-}
-
-// The refusal of two operands under a mode, with a target of p digits in n limbs. A call without a second operand or a target hands the
-// first operand over again: it is named for what it breaks before they are.
-fn refuse(mode: u8, x: Number, xl: &[u64], y: Number, yl: &[u64], p: u64, n: usize) -> Refusal
-    ensures { λ r. ⌜ r ≡ pairRefusal mode (operandOf x (now (xl .entry))) (operandOf y (now (yl .entry))) p n ⌝ }
-{
-    let target = judge_target(p, n);
-    first_refusal(mode <= MOST_MODE, judge(x, xl), judge(y, yl), target)
-}
-
-// ---- the quick way: a call in which every test holds is told at once
-
-// Whether a target passes tests 2 and 3.
-fn target_passes(p: u64, n: usize) -> bool
-    ensures { λ r. ⌜ (r ≡ true → TargetPasses p n) ⌝ }
-{
-    if !precision_holds(p) {
-        return false;
-    }
-    n as u64 == (p + 63) / 64
-}
-
-// Whether the limbs of a regular number pass test 5.
-fn limbs_pass(p: u64, l: &[u64]) -> bool
-    requires { ⌜ 0 < length (now l) ⌝ }
-    ensures { λ r. ⌜ (r ≡ true → topBitHolds (now (l .entry)) && spareBitsHold p (now (l .entry)) ≡ true) ⌝ }
-{
-    if l[l.len() - 1] < FIRST_DIGIT {
-        return false;
-    }
-    low_holds(p, l[0])
-}
-
-// Whether an operand passes tests 2 to 5.
-fn passes(x: Number, l: &[u64]) -> bool
-    ensures { λ r. ⌜ (r ≡ true → Passes (operandOf x (now (l .entry)))) ⌝ }
-{
-    if !target_passes(x.precision, l.len()) {
-        return false;
-    }
-    if !exponent_holds(x) {
-        return false;
-    }
-    if is_zero(x) {
-        return true;
-    }
-    limbs_pass(x.precision, l)
-}
-
-// Whether two operands pass.
-fn both_pass(x: Number, xl: &[u64], y: Number, yl: &[u64]) -> bool
-    ensures { λ r. ⌜ (r ≡ true → Passes (operandOf x (now (xl .entry))) × Passes (operandOf y (now (yl .entry)))) ⌝ }
-{
-    if !passes(x, xl) {
-        return false;
-    }
-    passes(y, yl)
-}
-
-// Whether a mode and an operand pass.
-fn one_passes(mode: u8, x: Number, xl: &[u64]) -> bool
-    ensures { λ r. ⌜ (r ≡ true → (modeHolds mode ≡ true) × Passes (operandOf x (now (xl .entry)))) ⌝ }
-{
-    if MOST_MODE < mode {
-        return false;
-    }
-    passes(x, xl)
-}
-
-// Whether a mode, two operands and a target pass.
-fn pair_passes(mode: u8, x: Number, xl: &[u64], y: Number, yl: &[u64], p: u64, n: usize) -> bool
-    ensures { λ r. ⌜ (r ≡ true → pairRefusal mode (operandOf x (now (xl .entry))) (operandOf y (now (yl .entry))) p n ≡ accepted) ⌝ }
-{
-    if MOST_MODE < mode {
-        return false;
-    }
-    if !target_passes(p, n) {
-        return false;
-    }
-    both_pass(x, xl, y, yl)
-}
-
-// Whether a mode, an operand and a target pass.
-fn single_passes(mode: u8, x: Number, xl: &[u64], p: u64, n: usize) -> bool
-    ensures { λ r. ⌜ (r ≡ true → singleRefusal mode (operandOf x (now (xl .entry))) p n ≡ accepted) ⌝ }
-{
-    if !target_passes(p, n) {
-        return false;
-    }
-    one_passes(mode, x, xl)
-}
-
-// The same number, in a place of its own: what is lent to the ordered tests alone need not stand in memory before them.
-fn copied(x: Number) -> Number
-    ensures { λ r. ⌜ r ≡ x ⌝ }
-{
-    let kind = x.kind;
-    Number {
-        negative: x.negative,
-        kind: kind,
-        precision: x.precision,
-        exponent: x.exponent,
-    }
-}
-
-// The refusal of two operands under a mode, with no target.
-fn refuse_operands(mode: u8, x: Number, xl: &[u64], y: Number, yl: &[u64]) -> Refusal
-    ensures { λ r. ⌜ r ≡ pairRefusal mode (operandOf x (now (xl .entry))) (operandOf y (now (yl .entry))) (x .precision) (length (now (xl .entry))) ⌝ }
-{
-    let r = refuse(mode, copied(x), xl, copied(y), yl, x.precision, xl.len());
-    Refusal {
-        rule: r.rule,
-        place: r.place,
-    }
-}
-
-// Refusals 1 to 5 of two operands under a mode, with a target of p digits in n limbs.
-pub fn check_pair(
-    mode: u8,
-    x: Number,
-    xl: &[u64],
-    y: Number,
-    yl: &[u64],
-    p: u64,
-    n: usize,
-) -> Refusal
-    ensures { λ r. ⌜ r ≡ pairRefusal mode (operandOf x (now (xl .entry))) (operandOf y (now (yl .entry))) p n ⌝ }
-{
-    if pair_passes(mode, x, xl, y, yl, p, n) {
-        return Refusal { rule: 0, place: 0 };
-    }
-    refuse(mode, x, xl, y, yl, p, n)
-}
-
-// The same of one operand and a target.
-pub fn check_single(mode: u8, x: Number, xl: &[u64], p: u64, n: usize) -> Refusal
-    ensures { λ r. ⌜ r ≡ singleRefusal mode (operandOf x (now (xl .entry))) p n ⌝ }
-{
-    if single_passes(mode, x, xl, p, n) {
-        return Refusal { rule: 0, place: 0 };
-    }
-    refuse(mode, x, xl, x, xl, p, n)
-}
-
-// Refusals 2 to 5 of two operands, without a mode or a target.
-pub fn check_compared(x: Number, xl: &[u64], y: Number, yl: &[u64]) -> Refusal
-    ensures { λ r. ⌜ r ≡ comparedRefusal (operandOf x (now (xl .entry))) (operandOf y (now (yl .entry))) ⌝ }
-{
-    if both_pass(x, xl, y, yl) {
-        return Refusal { rule: 0, place: 0 };
-    }
-    refuse_operands(0, x, xl, y, yl)
-}
-
-// Refusals 1 to 5 of one operand under a mode, without a target.
-pub fn check_converted(mode: u8, x: Number, xl: &[u64]) -> Refusal
-    ensures { λ r. ⌜ r ≡ convertedRefusal mode (operandOf x (now (xl .entry))) ⌝ }
-{
-    if one_passes(mode, x, xl) {
-        return Refusal { rule: 0, place: 0 };
-    }
-    refuse_operands(mode, x, xl, x, xl)
-}
-
-// Refusals 2 to 5 of one operand.
-pub fn check_alone(x: Number, xl: &[u64]) -> Refusal
-    ensures { λ r. ⌜ r ≡ aloneRefusal (operandOf x (now (xl .entry))) ⌝ }
-{
-    if passes(x, xl) {
-        return Refusal { rule: 0, place: 0 };
-    }
-    refuse_operands(0, x, xl, x, xl)
 }

@@ -23,17 +23,17 @@ use Rattle.depth.proofs.Bounds.{deepest-today}
 use Rattle.decide.specs.Range.{large?, small?}
 use Rattle.decide.specs.Decide.{decideAt}
 use Rattle.decide.proofs.Settled.{enough-le}
-use Rattle.walk.specs.Column.{readTo}
+use Rattle.columns.specs.Column.{readTo}
 use Rattle.walk.specs.Window.{headOf}
 use Rattle.walk.specs.declared.state.Window.{Window}
-use Rattle.walk.proofs.Reading.{read-fewer}
+use Rattle.columns.proofs.Reading.{read-fewer}
 use Rattle.leap.specs.Leap.{Within, Leap, Leapt}
 use Rattle.settle.specs.Rows.{rowOf, seenRow}
 use Rattle.settle.specs.declared.rows.Pair.{Pair}
 use Rattle.settle.specs.declared.rows.Row.{Row}
 use Rattle.settle.specs.declared.rows.Way as code
 use Rattle.settle.specs.declared.rows.Row.the-variants.{Exact, Plus, Minus, Hole}
-use Rattle.settle.proofs.Ranges.{not-large, not-small}
+use Rattle.bounds.proofs.Ranges.{not-large, not-small}
 use Rattle.settle.proofs.Units.{and-false}
 use Rattle.bridge.specs.Verdict.{pairOf, Leads, readSum, settledBy, refusedBy, testBy, verdict, inner?, isFar, openDigits}
 use Rattle.bridge.proofs.Decision.{decision}

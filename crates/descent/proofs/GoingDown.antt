@@ -12,7 +12,7 @@ use Rattle.rounding.specs.Mode.{Mode}
 use Rattle.depth.specs.Bound.{deepest}
 use Rattle.depth.proofs.Bounds.{deepest-today}
 use Rattle.decide.specs.Decide.{decideAt}
-use Rattle.walk.specs.Column.{readTo}
+use Rattle.columns.specs.Column.{readTo}
 use Rattle.walk.specs.Window.{Fits, Shows, shownColumns}
 use Rattle.walk.specs.declared.state.Window.{Window}
 use Rattle.walk.proofs.Showing.{unfilled-unmixed}

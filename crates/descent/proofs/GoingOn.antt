@@ -21,12 +21,12 @@ use Rattle.depth.proofs.Bounds.{bound-most, bound-fixed, deepest-today}
 use Rattle.depth.proofs.Least.{fixed-more}
 use Rattle.decide.specs.Decide.{decideAt}
 use Rattle.decide.proofs.Decision.{decides-fixed}
-use Rattle.walk.specs.Column.{readTo, columnOf}
+use Rattle.columns.specs.Column.{readTo, columnOf}
 use Rattle.walk.specs.Window.{Shows}
 use Rattle.walk.specs.Tail.{Unmixed}
 use Rattle.walk.specs.Append.{Summed, Differed}
 use Rattle.walk.specs.declared.state.Window.{Window}
-use Rattle.walk.proofs.Reading as walk
+use Rattle.columns.proofs.Reading as walk
 use Rattle.settle.specs.declared.rows.Pair.{Pair}
 use Rattle.settle.specs.declared.rows.Way.{Way}
 use Rattle.bridge.specs.Verdict.{pairOf, Ordered, Leads, readSum}

@@ -18,14 +18,14 @@ use Rattle.rounding.specs.Mode.{Way, near, under, over}
 use Rattle.rounding.proofs.Order.{compare-at}
 use Rattle.decide.specs.Class.{tie, off, lean, alike, enough, settled}
 use Rattle.decide.proofs.Lean.{lean-rest}
-use Rattle.walk.specs.Rest.{RestOf}
-use Rattle.walk.specs.Digits.{ShowsDigits}
+use Rattle.remnant.specs.Rest.{RestOf}
+use Rattle.remnant.specs.Digits.{ShowsDigits}
 use Rattle.walk.specs.Window.{Shows}
-use Rattle.walk.specs.declared.rest.Rest.{Rest}
+use Rattle.remnant.specs.declared.rest.Rest.{Rest}
 use Rattle.walk.specs.declared.state.Window.{Window}
 use Rattle.walk.proofs.Showing.{whole-shows}
-use Rattle.settle.proofs.Plus.{settled-is}
-use Rattle.settle.proofs.Minus.{minus-under, minus-over, minus-near}
+use Rattle.lean.proofs.Plus.{settled-is}
+use Rattle.lean.proofs.Minus.{minus-under, minus-over, minus-near}
 use Rattle.descent.specs.Course.{Full, Inside}
 use Rattle.descent.proofs.AtOnce.{head-is, top-power}
 

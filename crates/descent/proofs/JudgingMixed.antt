@@ -22,8 +22,8 @@ use Rattle.decide.specs.Decide.{decideAt}
 use Rattle.decide.proofs.Lean.{lean-rest}
 use Rattle.walk.specs.Window.{shownOf, TailIs, Shows}
 use Rattle.walk.specs.Tail.{Unmixed}
-use Rattle.walk.specs.Rest.{RestOf}
-use Rattle.walk.specs.declared.rest.Rest.{Rest}
+use Rattle.remnant.specs.Rest.{RestOf}
+use Rattle.remnant.specs.declared.rest.Rest.{Rest}
 use Rattle.walk.specs.declared.state.Window.{Window}
 use Rattle.walk.specs.declared.state.Tail.{Tail}
 use Rattle.walk.specs.declared.state.Tail.the-variants.{Empty, Mixed}
@@ -31,8 +31,8 @@ use Rattle.walk.proofs.Showing.{columns-guarded}
 use Rattle.settle.specs.Rows.{rowOf}
 use Rattle.settle.specs.declared.rows.Row.{Row}
 use Rattle.settle.specs.declared.rows.Row.the-variants.{Exact, Plus, Minus, Hole}
-use Rattle.settle.proofs.Plus.{settled-is}
-use Rattle.settle.proofs.Minus.{minus-under, minus-over, minus-near}
+use Rattle.lean.proofs.Plus.{settled-is}
+use Rattle.lean.proofs.Minus.{minus-under, minus-over, minus-near}
 use Rattle.bridge.specs.Verdict.{pairOf, readSum, settledBy, testBy, verdict}
 use Rattle.bridge.proofs.Decision.{decision}
 use Rattle.bridge.proofs.Theorems.{hole-place}

@@ -18,13 +18,13 @@ use Rattle.rounding.specs.Mode.{Way}
 use Rattle.rounding.proofs.Order.{le-or-lt}
 use Rattle.decide.specs.Range.{large?, small?}
 use Rattle.walk.specs.Window.{shownColumns, Shows}
-use Rattle.walk.specs.Digits.{ShowsDigits}
-use Rattle.walk.specs.Ones.{OnesFirst}
+use Rattle.remnant.specs.Digits.{ShowsDigits}
+use Rattle.remnant.specs.Ones.{OnesFirst}
 use Rattle.walk.specs.declared.state.Window.{Window}
 use Rattle.walk.proofs.Showing.{columns-open, columns-guarded, whole-shows}
-use Rattle.settle.specs.Ends.{isFar, isNext, openDigits, Ones}
+use Rattle.bounds.specs.Ends.{isFar, isNext, openDigits, Ones}
 use Rattle.settle.specs.declared.rows.Pair.{Pair}
-use Rattle.settle.proofs.Ranges.{not-large, not-small}
+use Rattle.bounds.proofs.Ranges.{not-large, not-small}
 use Rattle.settle.proofs.Units.{and-false}
 use Rattle.bridge.specs.Verdict.{refusedBy}
 use Rattle.descent.specs.declared.going.Verdict.{Verdict}

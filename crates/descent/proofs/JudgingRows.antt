@@ -24,13 +24,13 @@ use Rattle.walk.specs.Window.{Fits, Shows}
 use Rattle.walk.specs.declared.state.Window.{Window}
 use Rattle.settle.specs.Ways.{wayIs}
 use Rattle.settle.specs.Rows.{rowOf, Modest}
-use Rattle.settle.specs.Hole.{Formed, Signs}
-use Rattle.settle.specs.Hole as hole
+use Rattle.hole.specs.Hole.{Formed, Signs}
+use Rattle.hole.specs.Hole as hole
 use Rattle.settle.specs.declared.rows.Pair.{Pair}
 use Rattle.settle.specs.declared.rows.Way.{Way}
 use Rattle.settle.specs.declared.rows.Row.{Row}
 use Rattle.settle.specs.declared.rows.Row.the-variants.{Exact, Plus, Minus, Hole}
-use Rattle.settle.proofs.Holes.{formed-operand}
+use Rattle.hole.proofs.Holes.{formed-operand}
 use Rattle.bridge.specs.Verdict.{pairOf, Ordered, readSum, settledBy, refusedBy, moreOf, verdict, inner?, holeWay}
 use Rattle.bridge.proofs.Told.{pair-first, pair-top, pair-second, pair-gap, pair-same, alone-second, alone-gap, alone-same}
 use Rattle.bridge.proofs.Decision.{decision}

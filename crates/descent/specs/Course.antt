@@ -15,7 +15,7 @@ use Rattle.rounding.specs.Sum.{add}
 use Rattle.depth.specs.Bound.{deepest}
 use Rattle.decide.specs.Class.{enough}
 use Rattle.decide.specs.Decide.{decideAt}
-use Rattle.walk.specs.Column.{readTo}
+use Rattle.columns.specs.Column.{readTo}
 use Rattle.walk.specs.Window.{shownColumns, Fits, Shows}
 use Rattle.walk.specs.Tail.{Unmixed}
 use Rattle.walk.specs.declared.state.Window.{Window}

@@ -51,7 +51,7 @@ fn is_inside(w: Window, target: &[u64], p: u64) -> bool
     requires { ⌜ Room p (length (now target)) × Full w (now target) ⌝ }
     ensures { λ r. ⌜ (r ≡ true → (k D : ℕ) → Shows w (now (target .entry)) k D → Inside p D) ⌝ }
 {
-    let digits = walk::digits_of(w, target);
+    let digits = remnant::digits_of(w, target);
     if digits <= p {
         return false;
     }

@@ -12,12 +12,12 @@ ghost use Rattle.rounding.specs.Mode.{Mode, way};
 ghost use Rattle.decide.specs.Class.{settled};
 ghost use Rattle.decide.specs.Decide.{decideAt};
 ghost use Rattle.decide.specs.Table.{holeBySize};
-ghost use Rattle.walk.specs.Column.{columnOf};
-ghost use Rattle.walk.specs.Rest.{RestOf};
+ghost use Rattle.columns.specs.Column.{columnOf};
+ghost use Rattle.remnant.specs.Rest.{RestOf};
 ghost use Rattle.walk.specs.Window.{Fits, Shows};
 ghost use Rattle.settle.specs.Ways.{wayIs};
-ghost use Rattle.settle.specs.Ends.{Ones};
-ghost use Rattle.settle.specs.Hole.{InHole, Signs};
+ghost use Rattle.bounds.specs.Ends.{Ones};
+ghost use Rattle.hole.specs.Hole.{InHole, Signs};
 ghost use Rattle.settle.specs.declared.rows.Way as code;
 ghost use Rattle.bridge.specs.Verdict.{pairOf, refusedBy};
 ghost use Rattle.descent.specs.Ready.{Room};
@@ -26,10 +26,10 @@ ghost use Rattle.descent.specs.Course.{Course, Judged, Stopped, Held, Be
 use crate::prompt::fill;
 use crate::prompt::has_lead;
 use crate::prompt::is_prompt;
+use remnant::Rest;
 use settle::Pair;
 use settle::Row;
 use settle::Way;
-use walk::Rest;
 use walk::Window;
 
 // Not fixed; fixed, the sum being D, and more if so said; fixed in a hole; fixed as a refusal.
@@ -52,7 +52,7 @@ fn digits_in(w: Window, target: &[u64], pair: Pair, k: u64) -> u64
     requires { ⌜ (length (now target) < 2 ^ 50) × Measured pair w (now target) k ⌝ }
     ensures { λ r. ⌜ (r ≤ 2 ^ 30) × ((D : ℕ) → Shows w (now (target .entry)) k D → r ≡ size D) ⌝ }
 {
-    let digits = walk::digits_of(w, target);
+    let digits = remnant::digits_of(w, target);
     let filled = w.filled;
     let below = k - w.skipped - (filled as u64);
     if w.guarded {
@@ -67,9 +67,9 @@ fn ones_in(w: Window, target: &[u64], pair: Pair, k: u64, digits: u64, p: u64) -
     ensures { λ r. ⌜ ((D : ℕ) → Shows w (now (target .entry)) k D → digits ≡ size D → Ones p D r) ⌝ }
 {
     if p <= digits {
-        walk::ones_first(w, target, p)
+        remnant::ones_first(w, target, p)
     } else {
-        walk::ones_first(w, target, digits)
+        remnant::ones_first(w, target, digits)
     }
 }
 
@@ -78,12 +78,12 @@ fn refused_sum(way: Way, x: Rest, w: Window, target: &[u64], p: u64, pair: Pair,
     requires { ⌜ Room p (length (now target)) × Measured pair w (now target) k ⌝ }
     ensures { λ r. ⌜ ((D : ℕ) → Shows w (now (target .entry)) k D → Moderate pair k D → RestOf p D x → pair .same ≡ true → r ≡ refusedAs pair (refusedBy (wayIs way) p pair k D)) ⌝ }
 {
-    if !settle::is_high(pair.top) {
+    if !bounds::is_high(pair.top) {
         return Verdict::Open;
     }
     let digits = digits_in(w, target, pair, k);
     let ones = ones_in(w, target, pair, k, digits, p);
-    if settle::too_large(way, x, digits, ones, p, pair, k) {
+    if bounds::too_large(way, x, digits, ones, p, pair, k) {
         Verdict::Refused(6)
     } else {
         Verdict::Open
@@ -106,12 +106,12 @@ fn refused_difference(
     if 64 * k <= pair.gap {
         return Verdict::Open;
     }
-    if !settle::is_low(pair.top, k) {
+    if !bounds::is_low(pair.top, k) {
         return Verdict::Open;
     }
     let digits = digits_in(w, target, pair, k);
     let ones = ones_in(w, target, pair, k, digits, p);
-    if settle::too_small(way, x, digits, ones, p, pair, k) {
+    if bounds::too_small(way, x, digits, ones, p, pair, k) {
         Verdict::Refused(7)
     } else {
         Verdict::Open
@@ -145,8 +145,8 @@ fn judge_plus(
     requires { ⌜ Room p (length (now target)) × Measured pair w (now target) k ⌝ }
     ensures { λ r. ⌜ ((D : ℕ) → Shows w (now (target .entry)) k D → Moderate pair k D → r ≡ verdictAs pair (settled (wayIs way) p D least (bit next) most) least (refusedBy (wayIs way) p pair k D)) ⌝ }
 {
-    let x = walk::rest_of(w, target, p);
-    if settle::settled_plus(way, x, least, next, most) {
+    let x = remnant::rest_of(w, target, p);
+    if lean::settled_plus(way, x, least, next, most) {
         Verdict::Fixed(least)
     } else {
         refused(way, x, w, target, p, pair, k)
@@ -166,8 +166,8 @@ fn judge_minus(
     requires { ⌜ Room p (length (now target)) × Measured pair w (now target) k ⌝ }
     ensures { λ r. ⌜ ((D : ℕ) → Shows w (now (target .entry)) k D → Moderate pair k D → r ≡ verdictAs pair (settled (wayIs way) p (D - 1) true 1 most) most (refusedBy (wayIs way) p pair k D)) ⌝ }
 {
-    let x = walk::rest_of(w, target, p);
-    if settle::settled_minus(way, x, most) {
+    let x = remnant::rest_of(w, target, p);
+    if lean::settled_minus(way, x, most) {
         Verdict::Fixed(most)
     } else {
         refused(way, x, w, target, p, pair, k)
@@ -179,7 +179,7 @@ fn judge_hole(way: Way, p: u64, pair: Pair, first: &[u64]) -> Verdict
     requires { ⌜ InHole pair (now first) × (p ≤ 2 ^ 20) ⌝ }
     ensures { λ r. ⌜ ((o : Mode) (a b : Bool) → Signs o a b pair way → r ≡ cond (holeBySize o p a b (valueOf (now (first .entry)) / 2 ^ spareBits (pair .first)) (pair .gap - pair .first)) verdict.InHole verdict.Open) ⌝ }
 {
-    if settle::hole_fixed(way, p, pair, first) {
+    if hole::hole_fixed(way, p, pair, first) {
         Verdict::InHole
     } else {
         Verdict::Open
@@ -228,7 +228,7 @@ fn second_column(pair: Pair, second: &[u64], k: u64) -> u64
     if pair.second == 0 {
         0
     } else {
-        walk::column(second, pair.second, pair.gap, k)
+        columns::column(second, pair.second, pair.gap, k)
     }
 }
 
@@ -237,7 +237,7 @@ fn step(pair: Pair, first: &[u64], second: &[u64], w: Window, k: u64, target: &m
     requires { ⌜ Fits w (now target) × (w .skipped + 1 < 2 ^ 64) ⌝ }
     ensures { λ r. ⌜ ((o : Mode) (p : ℕ) (x y : Operand) (toward : code.Way) → Held o x y toward pair (now (first .entry)) (now (second .entry)) → Going o p x y w (now (target .entry)) k → Reached x y r (now (target .exit)) (k + 1)) ⌝ }
 {
-    let a = walk::column(first, pair.first, 0, k);
+    let a = columns::column(first, pair.first, 0, k);
     let b = second_column(pair, second, k);
     if pair.same {
         walk::append_sum(w, target, a, b)

@@ -33,9 +33,9 @@ fn is_inland(pair: Pair, columns: u64) -> bool
     ensures { λ r. ⌜ (r ≡ true → pair .same ≡ true → ltb mostExponent (pair .top + 2) ≡ false) × (r ≡ true → pair .same ≡ false → ltb (pair .top + 1) (leastExponent + 64 * columns) ≡ false) ⌝ }
 {
     if pair.same {
-        !settle::is_high(pair.top)
+        !bounds::is_high(pair.top)
     } else {
-        !settle::is_low(pair.top, columns)
+        !bounds::is_low(pair.top, columns)
     }
 }
 

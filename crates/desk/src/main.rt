@@ -1,6 +1,6 @@
 // The desk program: groups of three lines from standard input, an answer for each to standard output.
-use stream::Held;
-use stream::LINE_ROOM;
+use cutting::Held;
+use cutting::LINE_ROOM;
 
 // What is held, and whether nothing can be written any more.
 struct Standing {
@@ -51,7 +51,7 @@ fn finish(held: Held, first: &[u8], second: &[u8], third: &[u8], out: &mut [u8])
 
 // Piece after piece, to the end of the input or to the first write that fails.
 fn run(piece: &mut [u8], first: &mut [u8], second: &mut [u8], third: &mut [u8], out: &mut [u8]) {
-    let mut held = stream::start();
+    let mut held = cutting::start();
     let mut turns: u64 = 18446744073709551615;
     while 0 < turns {
         let got = io::read_full(0, piece);

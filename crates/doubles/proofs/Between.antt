@@ -18,14 +18,14 @@ use Rattle.rounding.specs.Paper.{Le}
 use Rattle.rounding.proofs.Order.{le-or-lt, mul-one-one}
 use Rattle.rounding.proofs.Scale.{exact, chosen-shift}
 use Rattle.rounding.proofs.Paper.{selected, selected-is-down, selected-is-up}
-use Rattle.place.specs.Placed.{ternaryOf}
+use Rattle.location.specs.Ternary.{ternaryOf}
 use Rattle.checks.specs.Check.{accepted}
 use Rattle.checks.proofs.Accepted.{alone-accepted}
 use Rattle.doubles.specs.declared.Converted.{Converted}
-use Rattle.doubles.specs.Double.{doubleLeast, doubleMost, doubleSign, isFinite, doubleDigits, doubleScale, exponentField, fraction, doubleWorth, doubleUnit, signBit, packed, double}
+use Rattle.unpack.specs.Double.{doubleLeast, doubleMost, doubleSign, isFinite, doubleDigits, doubleScale, exponentField, fraction, doubleWorth, doubleUnit, signBit, packed, double}
 use Rattle.doubles.specs.Convert.{inDoubles, convertedIn, outside, caseOf, doubleCase}
 use Rattle.doubles.specs.Enclose.{endOf, refusalOf, unenclosedBy, pairOf, enclosedOf, IsDouble, Encloses}
-use Rattle.doubles.proofs.Bits.{bits-back, zero-no-nan, zero-lt, zero-sign, zero-finite, zero-worth, packed-lt, packed-no-nan, packed-finite, packed-sign}
+use Rattle.unpack.proofs.Bits.{bits-back, zero-no-nan, zero-lt, zero-sign, zero-finite, zero-worth, packed-lt, packed-no-nan, packed-finite, packed-sign}
 use Rattle.doubles.proofs.Cases.{in-doubles, is-beyond, is-under, is-inside, few-digits, first-digit}
 use Rattle.doubles.proofs.Worth.{regular-amount, some, inside-worth}
 

@@ -25,19 +25,20 @@ use Rattle.rounding.proofs.Between.{is-large, is-small, is-in}
 use Rattle.rounding.proofs.Scale.{chosen-pos}
 use Rattle.rounding.proofs.Range.{digits-few, digits-first}
 use Rattle.place.specs.declared.Placed.{Placed}
-use Rattle.place.specs.Placed.{ternaryOf, placedOf, limbsAfter}
+use Rattle.place.specs.Placed.{placedOf, limbsAfter}
+use Rattle.location.specs.Ternary.{ternaryOf}
 use Rattle.checks.specs.declared.Refusal.{Refusal}
 use Rattle.checks.specs.Check.{accepted, convertedRefusal, aloneRefusal}
 use Rattle.checks.proofs.Accepted.{accepted-converted, converted-unrefused, accepted-alone, alone-unrefused}
 use Rattle.doubles.specs.declared.Converted.{Converted}
 use Rattle.doubles.specs.declared.Converted.the-variants.{Exact, Below, Above, Refused}
 use Rattle.doubles.specs.declared.Enclosed.{Enclosed}
-use Rattle.doubles.specs.declared.select.Selected.{Selected}
-use Rattle.doubles.specs.Double.{doublePrecision, doubleLeast, doubleMost, signBit, packed, double}
+use Rattle.select.specs.declared.Selected.{Selected}
+use Rattle.unpack.specs.Double.{doublePrecision, doubleLeast, doubleMost, signBit, packed, double}
 use Rattle.doubles.specs.Convert.{rangedIn, selectedIn, convertedIn, inDoubles, outside, caseOf, doubleCase, convertedOf, told, toldAnswer, toldOf}
 use Rattle.doubles.specs.Enclose.{endOf, refusalOf, unenclosedBy, pairOf, enclosedOf}
-use Rattle.doubles.specs.Steps.{shortened, Selects}
-use Rattle.doubles.proofs.Bits.{bits-back, zero-no-nan, zero-lt, packed-lt, packed-no-nan}
+use Rattle.select.specs.Steps.{shortened, Selects}
+use Rattle.unpack.proofs.Bits.{bits-back, zero-no-nan, zero-lt, packed-lt, packed-no-nan}
 
 -- ---- the case of a ternary value
 

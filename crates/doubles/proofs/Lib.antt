@@ -1,9 +1,4 @@
-pub mod Bits
-pub mod Cell
-pub mod Heads
-pub mod Run
 pub mod Cases
-pub mod Reading
 pub mod Worth
 pub mod Between
 pub mod RoundTrip

@@ -22,17 +22,17 @@ use Rattle.rounding.proofs.Selection.{multiple}
 use Rattle.rounding.proofs.Even.{size-is, size-ge}
 use Rattle.rounding.proofs.Range.{accepted-only}
 use Rattle.rounding.proofs.Reround.{reround-is, reround-own}
-use Rattle.place.specs.Placed.{ternaryOf}
+use Rattle.location.specs.Ternary.{ternaryOf}
 use Rattle.checks.specs.Number.{operandOf, isZeroKind}
 use Rattle.checks.specs.Check.{accepted}
 use Rattle.checks.proofs.Accepted.{converted-accepted}
 use Rattle.checks.proofs.Signed.{counted-exponent-of}
-use Rattle.doubles.specs.declared.FromDouble.{FromDouble}
+use Rattle.unpack.specs.declared.FromDouble.{FromDouble}
 use Rattle.doubles.specs.declared.Converted.the-variants.{Exact}
-use Rattle.doubles.specs.Double.{doublePrecision, doubleLeast, doubleMost, doubleSign, exponentField, fraction, isFinite, doubleDigits, doubleScale, doubleWorth, doubleUnit, signBit, packed, double}
+use Rattle.unpack.specs.Double.{doublePrecision, doubleLeast, doubleMost, doubleSign, exponentField, fraction, isFinite, doubleDigits, doubleScale, doubleWorth, doubleUnit, signBit, packed, double}
 use Rattle.doubles.specs.Convert.{inDoubles, convertedIn, outside, caseOf, doubleCase, convertedOf}
-use Rattle.doubles.specs.Read.{isNumber, readExponent, numberOfBits, limbsOfBits, readOf, readLimbs}
-use Rattle.doubles.proofs.Reading.{no-refusal}
+use Rattle.unpack.specs.Read.{isNumber, readExponent, numberOfBits, limbsOfBits, readOf, readLimbs}
+use Rattle.unpack.proofs.Reading.{no-refusal}
 use Rattle.doubles.proofs.Cases.{in-doubles, is-under, is-inside, result, E}
 use Rattle.doubles.proofs.Worth.{regular-amount}
 use Rattle.doubles.proofs.Between.{digits-lt}

@@ -7,10 +7,10 @@ use lib.ListN.{length}
 use Rattle.numbers.specs.Operand.{Operand}
 use Rattle.doubles.specs.declared.Converted.{Converted}
 use Rattle.doubles.specs.declared.Enclosed.{Enclosed}
-use Rattle.doubles.specs.declared.FromDouble.{FromDouble}
+use Rattle.unpack.specs.declared.FromDouble.{FromDouble}
 use Rattle.doubles.specs.Convert.{convertedOf}
 use Rattle.doubles.specs.Enclose.{enclosedOf}
-use Rattle.doubles.specs.Read.{readOf, readLimbs}
+use Rattle.unpack.specs.Read.{readOf, readLimbs}
 
 pub converted-unique : (mode : ℕ) (x : Operand) (r s : Converted) → r ≡ convertedOf mode x → s ≡ convertedOf mode x → r ≡ s
 converted-unique mode x r s e f = e ∙ sym f

@@ -18,9 +18,9 @@ use Rattle.rounding.proofs.Selection.{chosen-rep}
 use Rattle.rounding.proofs.Scale.{chosen-pos}
 use Rattle.rounding.proofs.Range.{written}
 use Rattle.rounding.proofs.Paper.{selected, selected-is-asked, ternary-is-sign}
-use Rattle.doubles.specs.Double.{doubleLeast, doubleMost, doubleSign, doubleWorth, doubleUnit, packed}
+use Rattle.unpack.specs.Double.{doubleLeast, doubleMost, doubleSign, doubleWorth, doubleUnit, packed}
 use Rattle.doubles.specs.Convert.{inDoubles}
-use Rattle.doubles.proofs.Bits.{packed-worth, packed-sign}
+use Rattle.unpack.proofs.Bits.{packed-worth, packed-sign}
 use Rattle.doubles.proofs.Cases.{in-doubles, is-inside, few-digits, first-digit, least-literal}
 
 -- what a regular number is worth

@@ -9,11 +9,11 @@ use Rattle.numbers.specs.Operand.{Operand, mantissa, lastWeight}
 use Rattle.rounding.specs.Mode.{Mode, Way, modeOf, way}
 use Rattle.rounding.specs.Select.{chosen}
 use Rattle.rounding.specs.Answer.{Answer, zeroOf, number, tooLarge, tooSmall, digits, signed}
-use Rattle.place.specs.Placed.{ternaryOf}
+use Rattle.location.specs.Ternary.{ternaryOf}
 use Rattle.checks.specs.Check.{convertedRefusal}
 use Rattle.doubles.specs.declared.Converted.{Converted}
 use Rattle.doubles.specs.declared.Converted.the-variants.{Exact, Below, Above, Refused}
-use Rattle.doubles.specs.Double.{doublePrecision, doubleLeast, doubleMost, signBit, packed, double}
+use Rattle.unpack.specs.Double.{doublePrecision, doubleLeast, doubleMost, signBit, packed, double}
 
 -- ---- any format: so many bits, and exponents from least to most, counted
 

@@ -14,7 +14,7 @@ use Rattle.doubles.specs.declared.Converted.{Converted}
 use Rattle.doubles.specs.declared.Converted.the-variants.{Exact, Below, Above, Refused}
 use Rattle.doubles.specs.declared.Enclosed.{Enclosed}
 use Rattle.doubles.specs.declared.Enclosing.{Enclosing}
-use Rattle.doubles.specs.Double.{signBit, double, doubleSign, isFinite, doubleWorth, doubleUnit}
+use Rattle.unpack.specs.Double.{signBit, double, doubleSign, isFinite, doubleWorth, doubleUnit}
 use Rattle.doubles.specs.Convert.{inDoubles, doubleCase}
 
 -- the double of an answer, and +0 where it is refused

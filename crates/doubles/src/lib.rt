@@ -1,18 +1,13 @@
-// Numbers to doubles, to an enclosing pair of doubles, and back. A double is stated by its bits.
+// Numbers to doubles, and to an enclosing pair of doubles. A double is stated by its bits.
 use checks::Number;
 use checks::Refusal;
 ghost use mathlib.Core.Path.{_≡_};
-ghost use lib.ListN.{length};
 ghost use Rattle.numbers.specs.Operand.{WellFormed};
 ghost use Rattle.checks.specs.Number.{operandOf};
 ghost use Rattle.doubles.specs.Convert.{outside, caseOf, doubleCase, inDoubles, convertedOf, told, toldOf};
 ghost use Rattle.doubles.specs.Enclose.{endOf, refusalOf, unenclosedBy, pairOf, enclosedOf};
-ghost use Rattle.doubles.specs.Read.{readOf, readLimbs};
 
-mod leading; // leading.rt: the limbs of a number that 53 digits and the place of the rest need
 mod pack; // pack.rt: bits of a double
-mod select; // select.rt: the 53 digits that a mode selects
-mod unpack; // unpack.rt: the number of a double's bits
 
 // Exact, with the double; the double lies below the number; it lies above; refused.
 pub enum Converted {
@@ -31,12 +26,6 @@ pub struct Enclosing {
 // The pair, and the refusal; under any refusal both ends are +0.
 pub struct Enclosed {
     pub pair: Enclosing,
-    pub refusal: Refusal,
-}
-
-// The number, and the refusal; a refused number is +0 of precision 2.
-pub struct FromDouble {
-    pub number: Number,
     pub refusal: Refusal,
 }
 
@@ -87,7 +76,7 @@ pub fn to_double(mode: u8, x: Number, xl: &[u64]) -> Converted
     ensures { λ r. ⌜ r ≡ convertedOf mode (operandOf x (now (xl .entry))) ⌝ }
     ensures { λ r. ⌜ told r ≡ toldOf mode (operandOf x (now (xl .entry))) ⌝ }
 {
-    let refusal = checks::check_converted(mode, x, xl);
+    let refusal = admission::check_converted(mode, x, xl);
     if refusal.rule != 0 {
         return Converted::Refused(refusal);
     }
@@ -156,25 +145,11 @@ fn pair_of(down: Converted, up: Converted) -> Enclosed
 pub fn enclose(x: Number, xl: &[u64]) -> Enclosed
     ensures { λ r. ⌜ r ≡ enclosedOf (operandOf x (now (xl .entry))) ⌝ }
 {
-    let refusal = checks::check_alone(x, xl);
+    let refusal = admission::check_alone(x, xl);
     if refusal.rule != 0 {
         return unenclosed(refusal);
     }
     let down = convert(3, x, xl);
     let up = convert(2, x, xl);
     pair_of(down, up)
-}
-
-// A double to a number of precision 53, exact; the target is one limb.
-pub fn from_double(d: f64, target: &mut [u64]) -> FromDouble
-    ensures { λ r. ⌜ r ≡ readOf (length (now (target .entry))) d ⌝ }
-    ensures { λ r. ⌜ now (target .exit) ≡ readLimbs (now (target .entry)) d ⌝ }
-{
-    if target.len() != 1 {
-        return unpack::unread(3, 3);
-    }
-    if d != d {
-        return unpack::unread(14, 1);
-    }
-    unpack::from_bits(f64::to_bits(d), target)
 }

@@ -1,7 +1,7 @@
 // The bits of a double.
 ghost use mathlib.Core.Path.{_≡_};
 ghost use Prim.Native.Nat.{_/_, _^_, _≤_};
-ghost use Rattle.doubles.specs.Double.{doubleLeast, doubleMost, signBit, packed, double};
+ghost use Rattle.unpack.specs.Double.{doubleLeast, doubleMost, signBit, packed, double};
 
 // The counted exponents of normal doubles, as 0.b1 .. b53 * 2^e: 2^40 - 1021 to 2^40 + 1024.
 pub const LEAST_EXPONENT: u64 = 1099511626755;

@@ -26,10 +26,10 @@ use Rattle.decide.proofs.Settled.{Enough, enough-true}
 use Rattle.place.specs.declared.Placed.{Placed}
 use Rattle.place.specs.Placed.{runNumber, runAnswer, runRule}
 use Rattle.place.specs.Rounded.{roundedPlaced, roundedLimbs}
-use Rattle.place.specs.Walk.{headed, whole}
+use Rattle.kept.specs.Walk.{headed, whole}
 use Rattle.place.proofs.Answer.{placed-passed, limbs-passed}
 use Rattle.place.proofs.Rules.{rule-none}
-use Rattle.place.proofs.Reach.{top-apart}
+use Rattle.kept.proofs.Reaching.{top-apart}
 use Rattle.walk.specs.declared.state.Window.{Window}
 use Rattle.walk.specs.declared.state.Tail.{Tail}
 use Rattle.walk.specs.declared.state.Tail.the-variants.{Empty, Zeros, Ones, Mixed}

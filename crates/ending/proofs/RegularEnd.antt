@@ -28,7 +28,7 @@ use Rattle.place.specs.declared.Placed.{Placed}
 use Rattle.place.specs.Placed.{placedOf, limbsAfter}
 use Rattle.place.specs.Rounded.{refusedBy}
 use Rattle.settle.specs.declared.rows.Pair.{Pair}
-use Rattle.walk.specs.Column.{readTo}
+use Rattle.columns.specs.Column.{readTo}
 use Rattle.walk.specs.Window.{Shows}
 use Rattle.bridge.specs.Verdict.{pairOf, Ordered, Leads, readSum, holeWay}
 use Rattle.bridge.proofs.Read.{read-later}

@@ -12,7 +12,7 @@ ghost use Rattle.rounding.specs.Answer.{Answer, rounded};
 ghost use Rattle.rounding.specs.Sum.{add};
 ghost use Rattle.decide.specs.Class.{enough};
 ghost use Rattle.place.specs.Rounded.{refusedBy};
-ghost use Rattle.place.specs.Walk.{whole};
+ghost use Rattle.kept.specs.Walk.{whole};
 ghost use Rattle.walk.specs.Window.{TailIs, Shows};
 ghost use Rattle.bridge.specs.Verdict.{pairOf, holeWay};
 ghost use Rattle.descent.specs.Ready.{Room};
@@ -182,7 +182,7 @@ fn refuse(rule: u8, target: &mut [u64]) -> Placed
     ensures { λ r. ⌜ r ≡ refusedBy rule ⌝ }
     ensures { λ r. ⌜ now (target .exit) ≡ replicate (length (now (target .entry))) 0 ⌝ }
 {
-    run::clear(target);
+    parts::clear(target);
     Placed {
         rule: rule,
         exponent: 0,

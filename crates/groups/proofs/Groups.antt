@@ -25,11 +25,11 @@ use Rattle.lines.specs.Reading.{numberIn}
 use Rattle.lines.specs.declared.Head.{Head}
 use Rattle.sums.specs.declared.report.Sum.{Sum}
 use Rattle.sums.specs.Summed.{refusedSum, Reported, Refused, Summed}
-use Rattle.groups.specs.declared.order.Order.{Order}
-use Rattle.groups.specs.Order.{orderRefusal, orderOf, operationOf}
-use Rattle.groups.specs.Answer.{refusalLine, sumLines, longestAnswer, operandOfLine, numberRefusal, earlier, linesRefusal, sumRefusal, groupRefusal}
-use Rattle.groups.specs.Written.{mostLimbs, Tells, NumberRead, NumberHeld, AnswerTold, Answers}
-use Rattle.groups.proofs.Tellings.{refusal-fits, refusal-length, limbs-few, sum-few}
+use Rattle.desklines.specs.declared.order.Order.{Order}
+use Rattle.desklines.specs.Order.{orderRefusal, orderOf, operationOf}
+use Rattle.desklines.specs.Answer.{refusalLine, sumLines, longestAnswer, operandOfLine, numberRefusal, earlier, linesRefusal, sumRefusal, groupRefusal}
+use Rattle.desklines.specs.Written.{mostLimbs, Tells, NumberRead, NumberHeld, AnswerTold, Answers}
+use Rattle.desklines.proofs.Tellings.{refusal-fits, refusal-length, limbs-few, sum-few}
 use Rattle.groups.proofs.Numbers.{part-length}
 use Rattle.groups.proofs.Formed.{reported-formed}
 

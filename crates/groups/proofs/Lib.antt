@@ -1,5 +1,3 @@
-pub mod Tellings
 pub mod Numbers
-pub mod Orders
 pub mod Formed
 pub mod Groups

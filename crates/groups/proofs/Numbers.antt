@@ -20,9 +20,9 @@ use Rattle.lines.specs.declared.Head.{Head}
 use Rattle.lines.specs.Line.{longestLine}
 use Rattle.lines.specs.Reading.{numberIn, limbsRead, headTests, limbTests, headRefusal, readRefusal, answered, headOf, readOf, targetAfter}
 use Rattle.lines.proofs.Tests.{joined}
-use Rattle.groups.specs.Answer.{limbsOfLine, placed, numberRefusal}
-use Rattle.groups.specs.Written.{mostLimbs, NumberRead, NumberHeld}
-use Rattle.groups.proofs.Tellings.{limbs-few}
+use Rattle.desklines.specs.Answer.{limbsOfLine, placed, numberRefusal}
+use Rattle.desklines.specs.Written.{mostLimbs, NumberRead, NumberHeld}
+use Rattle.desklines.proofs.Tellings.{limbs-few}
 
 pub part-length : (room : List ℕ) (n : ℕ) → n ≤ length room → length (take (n - 0) (drop 0 room)) ≡ n
 part-length room n h =

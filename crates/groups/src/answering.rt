@@ -2,21 +2,21 @@
 use crate::number::MOST_LIMBS;
 use crate::number::limb_count;
 use crate::number::read_number;
-use crate::order::Order;
-use crate::order::read_order;
-use crate::telling::longest_answer;
-use crate::telling::put_refusal;
-use crate::telling::put_sum;
 use checks::Number;
+use desklines::Order;
+use desklines::longest_answer;
+use desklines::put_refusal;
+use desklines::put_sum;
+use desklines::read_order;
 use sums::Sum;
 ghost use mathlib.Core.Path.{_≡_};
 ghost use Prim.Native.Nat.{ℕ, _≤_};
 ghost use mathlib.Core.List.{List};
 ghost use lib.ListN.{length};
 ghost use Rattle.sums.specs.Summed.{Summed};
-ghost use Rattle.groups.specs.Order.{orderOf, operationOf};
-ghost use Rattle.groups.specs.Answer.{longestAnswer};
-ghost use Rattle.groups.specs.Written.{mostLimbs, NumberHeld, AnswerTold, Answers};
+ghost use Rattle.desklines.specs.Order.{orderOf, operationOf};
+ghost use Rattle.desklines.specs.Answer.{longestAnswer};
+ghost use Rattle.desklines.specs.Written.{mostLimbs, NumberHeld, AnswerTold, Answers};
 
 // The sum or the difference.
 fn sum(order: Order, x: Number, xl: &[u64], y: Number, yl: &[u64], target: &mut [u64]) -> Sum

@@ -8,7 +8,7 @@ ghost use Prim.Native.Nat.{min};
 ghost use lib.ListN.{length};
 ghost use Rattle.numbers.specs.Limits.{limbsFor};
 ghost use Rattle.checks.specs.Number.{nothing};
-ghost use Rattle.groups.specs.Written.{mostLimbs, NumberRead};
+ghost use Rattle.desklines.specs.Written.{mostLimbs, NumberRead};
 
 // The limbs of the largest precision.
 pub const MOST_LIMBS: usize = (checks::MOST_PRECISION as usize + 63) / 64;
@@ -63,13 +63,13 @@ pub(crate) fn read_number(line: &[u8], place: u8, room: &mut [u64]) -> Head
     if lines::longest_line() < line.len() {
         return refused(8, place);
     }
-    let head = lines::read_head(line);
+    let head = reader::read_head(line);
     if head.refusal.rule != 0 {
         return refused(head.refusal.rule, place);
     }
     let number = head.number;
     let n = limb_count(number.precision);
-    let whole = lines::read_line(line, &mut room[0..n]);
+    let whole = reader::read_line(line, &mut room[0..n]);
     if whole.refusal.rule != 0 {
         return refused(whole.refusal.rule, place);
     }

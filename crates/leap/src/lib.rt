@@ -10,8 +10,8 @@ ghost use mathlib.Core.Path.{_≡_};
 ghost use mathlib.Core.Bool.{false};
 ghost use Prim.Native.Nat.{_+_, _-_, _≤_, _<_};
 ghost use lib.ListN.{length};
-ghost use Rattle.run.specs.LowLimbs.{LowLimbs};
-ghost use Rattle.walk.specs.Column.{readTo};
+ghost use Rattle.shifts.specs.LowLimbs.{LowLimbs};
+ghost use Rattle.columns.specs.Column.{readTo};
 ghost use Rattle.leap.specs.Leap.{Within, Leap, SumColumns, DifferenceColumns, Leapt, leaptTo};
 use walk::Tail;
 use walk::Window;
@@ -22,7 +22,7 @@ fn columns_into(target: &mut [u64], limbs: &[u64], gap: u64, k: u64)
     ensures { λ r. ⌜ LowLimbs (length (now (target .entry))) (readTo k gap (now (limbs .entry))) (now (target .exit)) ⌝ }
 {
     let all = 64 * limbs.len() + gap as usize;
-    run::shift_down_into(target, limbs, all - 64 * (k as usize));
+    shifts::shift_down_into(target, limbs, all - 64 * (k as usize));
 }
 
 // The sum of the columns before column k, with a carry in. Returns the carry out.
@@ -70,8 +70,8 @@ fn sum_columns(
     requires { ⌜ (0 < length (now target)) × Within k 0 (now first) × Within k gap (now second) ⌝ }
     ensures { λ r. ⌜ SumColumns (readTo (k + 1) 0 (now (first .entry))) (readTo (k + 1) gap (now (second .entry))) false (length (now (target .entry))) (now (target .exit)) r ⌝ }
 {
-    let a = walk::column(first, m, 0, k);
-    let b = walk::column(second, n, gap, k);
+    let a = columns::column(first, m, 0, k);
+    let b = columns::column(second, n, gap, k);
     let s = limb::add_carry(a, b, false);
     target[0] = s.sum;
     sum_above(&mut target[1..], first, second, gap, k, s.carry)
@@ -90,8 +90,8 @@ fn difference_columns(
     requires { ⌜ (0 < length (now target)) × Within k 0 (now first) × Within k gap (now second) ⌝ }
     ensures { λ r. ⌜ DifferenceColumns (readTo (k + 1) 0 (now (first .entry))) (readTo (k + 1) gap (now (second .entry))) false (length (now (target .entry))) (now (target .exit)) r ⌝ }
 {
-    let a = walk::column(first, m, 0, k);
-    let b = walk::column(second, n, gap, k);
+    let a = columns::column(first, m, 0, k);
+    let b = columns::column(second, n, gap, k);
     let d = limb::sub_borrow(a, b, false);
     target[0] = d.difference;
     difference_above(&mut target[1..], first, second, gap, k, d.borrow)
@@ -102,7 +102,7 @@ fn single_columns(target: &mut [u64], first: &[u64], m: u64, k: u64)
     requires { ⌜ (0 < length (now target)) × Within k 0 (now first) ⌝ }
     ensures { λ r. ⌜ LowLimbs (length (now (target .entry))) (readTo (k + 1) 0 (now (first .entry))) (now (target .exit)) ⌝ }
 {
-    target[0] = walk::column(first, m, 0, k);
+    target[0] = columns::column(first, m, 0, k);
     columns_into(&mut target[1..], first, 0, k);
 }
 

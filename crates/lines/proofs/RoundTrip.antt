@@ -18,7 +18,7 @@ use Rattle.checks.specs.Number.{operandOf, isZeroKind}
 use Rattle.checks.specs.Check.{accepted, exponentHolds, formHolds}
 use Rattle.checks.proofs.Tables.{accepted-all, all-accepted}
 use Rattle.numbers.specs.Operand.{WellFormed}
-use Rattle.checks.specs.Judged.{Passes}
+use Rattle.checks.specs.Passes.{Passes}
 use Rattle.checks.proofs.Accepted.{passes-well-formed}
 use Rattle.text.specs.Digits.{allDigits, worth, numeral}
 use Rattle.text.proofs.Digits.{digits-append, digits-nil}

@@ -7,13 +7,6 @@ use checks::Refusal;
 ghost use mathlib.Core.Path.{_≡_};
 ghost use Rattle.lines.specs.Line.{shortestLine, longestLine, lineSize};
 
-mod reading; // reading.rt: a line read
-mod writing; // writing.rt: a line written
-
-pub use reading::read_head;
-pub use reading::read_line;
-pub use writing::write_line;
-
 // The number that a line holds, without its limbs, and the refusal; a refused number is +0 of precision 2.
 pub struct Head {
     pub number: Number,
@@ -47,7 +40,7 @@ pub fn longest_line() -> usize
 }
 
 // The bytes of a number's line, by its kind and precision.
-fn line_size(x: Number) -> usize
+pub fn line_size(x: Number) -> usize
     ensures { λ r. ⌜ r ≡ lineSize x ⌝ }
 {
     if checks::is_zero(x) {

@@ -156,7 +156,7 @@ fn order_accepted(x: Number, xl: &[u64], y: Number, yl: &[u64]) -> Order
 pub fn compare(x: Number, xl: &[u64], y: Number, yl: &[u64]) -> Compared
     ensures { λ r. ⌜ r ≡ comparedOf x (now (xl .entry)) y (now (yl .entry)) ⌝ }
 {
-    let refusal = checks::check_compared(x, xl, y, yl);
+    let refusal = admission::check_compared(x, xl, y, yl);
     if refusal.rule != 0 {
         return Compared {
             order: Order::Equal,

@@ -21,14 +21,16 @@ use Rattle.numbers.specs.Operand.{spareBits}
 use Rattle.numbers.proofs.Digits.{limbs-count, limbs-below, limbs-value}
 use Rattle.rounding.specs.Mode.{modeOf, way}
 use Rattle.rounding.specs.Answer.{Answer, number, ranged, signed}
-use Rattle.place.specs.declared.Location.{Location}
+use Rattle.location.specs.declared.Location.{Location}
 use Rattle.place.specs.declared.Placed.{Placed}
-use Rattle.place.specs.Location.{locationOf, goesUp, side}
-use Rattle.place.specs.Placed.{ternaryOf, runNumber, runAnswer, runRule, placedOf, limbsAfter}
+use Rattle.location.specs.Location.{locationOf, goesUp, side}
+use Rattle.place.specs.Placed.{runNumber, runAnswer, runRule, placedOf, limbsAfter}
+use Rattle.location.specs.Ternary.{ternaryOf}
 use Rattle.place.specs.Rounded.{refusedBy, roundedPlaced, roundedLimbs}
-use Rattle.place.specs.Walk.{headed, whole, Reaches, Holds, isFull, asDigits, RoundedUp, Settled}
+use Rattle.kept.specs.Walk.{headed, whole, Reaches, Holds, isFull, asDigits, RoundedUp}
+use Rattle.place.specs.InRange.{Settled}
 use Rattle.place.proofs.Placing.{rounded-at, settled}
-use Rattle.place.proofs.Reach.{whole-lt, whole-ge, rest-low}
+use Rattle.kept.proofs.Reaching.{whole-lt, whole-ge, rest-low}
 use Rattle.place.proofs.Rules.{Passed, passed, spare-is}
 
 -- ---- refused, or not

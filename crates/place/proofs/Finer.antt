@@ -11,10 +11,10 @@ use Rattle.limb.specs.Carry.{bit}
 use Rattle.limb.proofs.Carry.{bit-le}
 use Rattle.rounding.specs.Mode.{Way}
 use Rattle.rounding.specs.Answer.{rounded}
-use Rattle.place.specs.declared.Location.{Location}
-use Rattle.place.specs.Location.{locationOf, goesUp}
-use Rattle.place.specs.Walk.{isFull}
-use Rattle.place.proofs.Locate.{something, nothing, is-exact, is-lower, is-tie, is-upper, first-apart, four-halves}
+use Rattle.location.specs.declared.Location.{Location}
+use Rattle.location.specs.Location.{locationOf, goesUp}
+use Rattle.kept.specs.Walk.{isFull}
+use Rattle.location.proofs.Locating.{something, nothing, is-exact, is-lower, is-tie, is-upper, first-apart, four-halves}
 use Rattle.place.proofs.Placing.{rounded-at}
 
 -- ---- where the rest lies: its first digit f is one, and the others, l, with y of K below them are all 0 or not

@@ -19,12 +19,12 @@ use Rattle.place.specs.declared.one.Normal.{Normal}
 use Rattle.place.specs.Normal.{Normalized}
 use Rattle.place.specs.Placed.{runNumber, runAnswer, runRule, placedOf, limbsAfter}
 use Rattle.place.specs.Rounded.{roundedPlaced, roundedLimbs}
-use Rattle.place.specs.Walk.{headed, whole, Reaches}
+use Rattle.kept.specs.Walk.{headed, whole, Reaches}
 use Rattle.place.proofs.Answer.{placed-passed, limbs-passed}
 use Rattle.place.proofs.Finer.{finer}
-use Rattle.place.proofs.Moves.{limb-raised, top-few, limb-lowered}
-use Rattle.place.proofs.OneLimb.{one-value, one-reaches}
-use Rattle.place.proofs.Reach.{headed-true, headed-false, whole-lt, whole-ge}
+use Rattle.kept.proofs.Moves.{limb-raised, top-few, limb-lowered}
+use Rattle.kept.proofs.OneLimb.{one-value, one-reaches}
+use Rattle.kept.proofs.Reaching.{headed-true, headed-false, whole-lt, whole-ge}
 use Rattle.place.proofs.Rules.{Passed, passed, rule-none}
 
 differ : {A : Type 0} {b : Bool} → b ≡ true → b ≡ false → A

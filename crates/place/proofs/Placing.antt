@@ -22,14 +22,16 @@ use Rattle.rounding.specs.Answer.{Answer, number, ranged, digits, signed, round
 use Rattle.rounding.proofs.Order.{le-or-lt}
 use Rattle.rounding.proofs.Between.{is-large, is-small, is-in}
 use Rattle.rounding.proofs.Even.{size-is, digits-of}
-use Rattle.place.specs.declared.Location.{Location}
+use Rattle.location.specs.declared.Location.{Location}
 use Rattle.place.specs.declared.Placed.{Placed}
-use Rattle.place.specs.Location.{locationOf, goesUp, side}
-use Rattle.place.specs.Placed.{ternaryOf, placedOf, limbsAfter}
+use Rattle.location.specs.Location.{locationOf, goesUp, side}
+use Rattle.place.specs.Placed.{placedOf, limbsAfter}
+use Rattle.location.specs.Ternary.{ternaryOf}
 use Rattle.place.specs.Rounded.{refusedBy}
-use Rattle.place.specs.Walk.{isFull, asDigits, Settled}
-use Rattle.place.proofs.Locate.{selected-at, side-at}
-use Rattle.place.proofs.Unit.{not-full, is-full, digits-kept, digits-full}
+use Rattle.kept.specs.Walk.{isFull, asDigits}
+use Rattle.place.specs.InRange.{Settled}
+use Rattle.location.proofs.Locating.{selected-at, side-at}
+use Rattle.kept.proofs.Unit.{not-full, is-full, digits-kept, digits-full}
 
 -- ---- m units of 2 ^ k, with m at most 2 ^ p: its digits and its size
 

@@ -1,5 +1,4 @@
 pub mod Placed
 pub mod Rounded
-pub mod Location
-pub mod Walk
+pub mod InRange
 pub mod Normal

@@ -5,7 +5,7 @@ use mathlib.Core.List.{[], _∷_}
 use Prim.Native.Nat.{ℕ, _+_, _-_, _*_, _%_, _^_, _≤_, _<_}
 use lib.Dec.{eqb}
 use Rattle.place.specs.declared.one.Normal.{Normal}
-use Rattle.place.specs.Walk.{whole}
+use Rattle.kept.specs.Walk.{whole}
 
 -- With a carry the run goes down by a bit, and the digit that leaves the guard counts only as something; else it goes up by its zeros.
 -- The weight of the guard's last digit goes along.

@@ -1,9 +1,9 @@
 -- What rounding a run of limbs answers and leaves. Definitions only.
-use Prim.Native.Nat.{ℕ, _+_, _-_, _*_, _^_, Ordering, Ordering·lt, Ordering·eq, Ordering·gt}
+use Prim.Native.Nat.{ℕ, _+_, _-_, _*_, _^_}
 use mathlib.Core.Bool.{Bool, cond, _&&_, _||_}
 use mathlib.Core.List.{List}
 use lib.Dec.{ltb, leb, eqb}
-use lib.IntN.{ℤ, pos, negsuc}
+use lib.IntN.{pos}
 use lib.ListN.{length, getD, replicate}
 use Rattle.limb.specs.Value.{valueOf}
 use Rattle.limb.specs.Carry.{bit}
@@ -12,13 +12,8 @@ use Rattle.numbers.specs.Limbs.{limbsOf}
 use Rattle.numbers.specs.Operand.{spareBits}
 use Rattle.rounding.specs.Mode.{modeOf, way}
 use Rattle.rounding.specs.Answer.{Answer, zeroOf, number, tooLarge, tooSmall, rounded}
+use Rattle.location.specs.Ternary.{ternaryOf}
 use Rattle.place.specs.declared.Placed.{Placed}
-
--- "The ternary value is -1, 0 or 1"
-unfoldable pub ternaryOf : Ordering → ℤ
-ternaryOf Ordering·lt = negsuc 0
-ternaryOf Ordering·eq = pos 0
-ternaryOf Ordering·gt = pos 1
 
 -- The number that stands in a run, counted in halves of the guard's last digit: `more` says that something lies below, and counts as a half.
 --

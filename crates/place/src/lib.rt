@@ -12,24 +12,21 @@ ghost use Prim.Native.Nat.{_^_, _≤_};
 ghost use Rattle.place.specs.Placed.{runRule};
 ghost use Rattle.place.specs.Rounded.{roundedPlaced, roundedLimbs};
 
-mod rest; // rest.rt: where the part below the last kept digit lies, and what each mode makes of it
-mod truncation; // truncation.rt: walk one
-mod increment; // increment.rt: walk two
 mod limits; // limits.rt: which runs are rounded, and which exponents are in range
 mod one; // one.rt: a run of one limb by value, wherever its first digit stands
 
-use increment::is_odd;
-use increment::raise;
-use increment::round_up;
+use kept::is_odd;
+use kept::raise;
+use kept::reach;
+use kept::round_up;
+use kept::truncate;
 use limits::run_rule;
 use limits::settle;
 use limits::settle_limb;
+use location::locate;
+use location::rounds_up;
+use location::ternary;
 pub use one::round_one;
-use rest::locate;
-use rest::rounds_up;
-use rest::ternary;
-use truncation::reach;
-use truncation::truncate;
 
 // The rule by which the run is refused, or 0; the counted exponent and the ternary value of what is selected.
 pub struct Placed {
@@ -42,14 +39,6 @@ pub struct Placed {
 pub struct PlacedLimb {
     pub placed: Placed,
     pub limb: u64,
-}
-
-// Nothing below the last kept digit, or something below, at or above the middle.
-pub enum Location {
-    Exact,
-    Lower,
-    Tie,
-    Upper,
 }
 
 // Rounds a run that rules 2 to 5 let pass, as `round_run` does: for a caller that knows so.

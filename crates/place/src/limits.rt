@@ -7,7 +7,7 @@ ghost use lib.Dec.{ltb, leb};
 ghost use lib.ListN.{length, getD};
 ghost use Rattle.numbers.specs.Limits.{leastPrecision, mostPrecision, mostExponent};
 ghost use Rattle.place.specs.Placed.{runRule};
-ghost use Rattle.place.specs.Walk.{Settled};
+ghost use Rattle.place.specs.InRange.{Settled};
 use crate::Placed;
 use crate::PlacedLimb;
 
@@ -67,7 +67,7 @@ pub fn settle(target: &mut [u64], exponent: u64, ternary: i8) -> Placed
     ensures { λ r. ⌜ Settled exponent ternary (now (target .entry)) r (now (target .exit)) ⌝ }
 {
     if MOST_EXPONENT < exponent {
-        run::clear(target);
+        parts::clear(target);
         return Placed {
             rule: 6,
             exponent: 0,
@@ -75,7 +75,7 @@ pub fn settle(target: &mut [u64], exponent: u64, ternary: i8) -> Placed
         };
     }
     if exponent < LEAST_EXPONENT {
-        run::clear(target);
+        parts::clear(target);
         return Placed {
             rule: 7,
             exponent: 0,

@@ -1,5 +1,1 @@
 pub mod Adding
-pub mod LowBits
-pub mod Parts
-pub mod Trimming
-pub mod Windows

@@ -1,3 +1,1 @@
 pub mod Sum
-pub mod Trimmed
-pub mod LowLimbs

@@ -1,8 +1,8 @@
 // One run of limbs taken off another, in place. The columns are those of sum.rt.
 ghost use lib.ListN.{drop};
 ghost use Rattle.run.specs.Sum.{Subtracted, SubtractedAt, Reversed};
-use crate::part::limb_at;
-use crate::part::part_from;
+use parts::limb_at;
+use parts::part_from;
 
 // Takes the operand and a borrow off the target, as far as the target goes. Returns the borrow out.
 pub fn sub_into(target: &mut [u64], operand: &[u64], borrow: bool) -> bool

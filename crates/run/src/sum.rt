@@ -6,8 +6,8 @@
 //
 ghost use lib.ListN.{drop};
 ghost use Rattle.run.specs.Sum.{Added, AddedAt};
-use crate::part::limb_at;
-use crate::part::part_from;
+use parts::limb_at;
+use parts::part_from;
 
 // Adds the operand and a carry into the target, as far as the target goes. Returns the carry out.
 pub fn add_into(target: &mut [u64], operand: &[u64], carry: bool) -> bool

@@ -1,4 +1,3 @@
 -- What the proofs of several functions use, and that each promise fixes one answer.
-mod Told
 mod Trim
 pub mod Agree

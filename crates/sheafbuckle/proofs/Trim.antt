@@ -4,8 +4,8 @@ use Prim.Native.Nat.{ℕ, zero, suc, _+_, _-_, _≤_}
 use mathlib.Core.List.{List, [], _∷_}
 use native.Mathlib.Omega.{arith}
 use lib.ListN.{length, drop}
-use Rattle.run.specs.Trimmed.{trimmed}
-use Rattle.run.proofs.Trimming.{trimmed-length}
+use Rattle.parts.specs.Trimmed.{trimmed}
+use Rattle.parts.proofs.Trimming.{trimmed-length}
 
 pub trimmed-drop : (l : List ℕ) → drop (length l - length (trimmed l)) l ≡ trimmed l
 unfolding trimmed

@@ -1,11 +1,11 @@
 // Add, subtract, re-round.
-use crate::plain::PlainNumber;
-use crate::plain::PlainSum;
-use crate::plain::number_from;
-use crate::plain::plain_sum;
+use plain::PlainNumber;
+use plain::PlainSum;
+use plain::number_from;
+use plain::plain_sum;
 ghost use Rattle.depth.specs.Depth.{plus, minus};
 ghost use Rattle.sums.specs.Summed.{Summed, Rerounded};
-ghost use Rattle.sheafbuckle.specs.Plain.{numberFrom, sumFrom};
+ghost use Rattle.plain.specs.Plain.{numberFrom, sumFrom};
 
 // x + y, rounded to p digits.
 #[no_mangle]

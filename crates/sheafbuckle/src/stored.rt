@@ -1,49 +1,16 @@
 // The stored line: written, its head read, read.
-use crate::plain::PlainNumber;
-use crate::plain::PlainRead;
-use crate::plain::number_from;
-use crate::plain::plain_number;
-use lines::Head;
-use lines::Written;
+use plain::PlainNumber;
+use plain::PlainRead;
+use plain::PlainWritten;
+use plain::number_from;
+use plain::plain_head;
+use plain::plain_written;
 ghost use mathlib.Core.Path.{_≡_};
 ghost use lib.ListN.{length};
 ghost use Rattle.lines.specs.Reading.{headOf, readOf, targetAfter};
 ghost use Rattle.lines.specs.Writing.{writtenOf, roomAfter};
-ghost use Rattle.sheafbuckle.specs.Plain.{numberFrom};
-ghost use Rattle.sheafbuckle.specs.Answers.{headFrom, writtenFrom};
-
-// How many bytes were written, and the refusal.
-#[repr(C)]
-pub struct PlainWritten {
-    pub count: usize,
-    pub rule: u8,
-    pub place: u8,
-}
-
-// The plain fields of what was written.
-fn plain_written(w: Written) -> PlainWritten
-    ensures { λ r. ⌜ writtenFrom r ≡ w ⌝ }
-{
-    let refusal = w.refusal;
-    PlainWritten {
-        count: w.count,
-        rule: refusal.rule,
-        place: refusal.place,
-    }
-}
-
-// The plain fields of a number that a line holds.
-fn plain_head(h: Head) -> PlainRead
-    ensures { λ r. ⌜ headFrom r ≡ h ⌝ }
-{
-    let number = plain_number(h.number);
-    let refusal = h.refusal;
-    PlainRead {
-        number: number,
-        rule: refusal.rule,
-        place: refusal.place,
-    }
-}
+ghost use Rattle.plain.specs.Plain.{numberFrom};
+ghost use Rattle.plain.specs.Answers.{headFrom, writtenFrom};
 
 // The number's line, into the room.
 #[no_mangle]
@@ -55,7 +22,7 @@ pub extern "C" fn sheafbuckle_write_line(
     ensures { λ r. ⌜ writtenFrom r ≡ writtenOf (numberFrom x) (now (limbs .entry)) (length (now (room .entry))) ⌝ }
     ensures { λ r. ⌜ now (room .exit) ≡ roomAfter (numberFrom x) (now (limbs .entry)) (now (room .entry)) ⌝ }
 {
-    plain_written(lines::write_line(number_from(x), limbs, room))
+    plain_written(writer::write_line(number_from(x), limbs, room))
 }
 
 // The number that a line holds, without its limbs.
@@ -63,7 +30,7 @@ pub extern "C" fn sheafbuckle_write_line(
 pub extern "C" fn sheafbuckle_read_head(line: &[u8]) -> PlainRead
     ensures { λ r. ⌜ headFrom r ≡ headOf (now (line .entry)) ⌝ }
 {
-    plain_head(lines::read_head(line))
+    plain_head(reader::read_head(line))
 }
 
 // The number that a line holds, its limbs into the target.
@@ -72,5 +39,5 @@ pub extern "C" fn sheafbuckle_read_line(line: &[u8], target: &mut [u64]) -> Plai
     ensures { λ r. ⌜ headFrom r ≡ readOf (length (now (target .entry))) (now (line .entry)) ⌝ }
     ensures { λ r. ⌜ now (target .exit) ≡ targetAfter (now (line .entry)) (now (target .entry)) ⌝ }
 {
-    plain_head(lines::read_line(line, target))
+    plain_head(reader::read_line(line, target))
 }

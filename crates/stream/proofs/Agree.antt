@@ -11,14 +11,14 @@ use Rattle.checks.specs.Check.{accepted}
 use Rattle.sums.specs.declared.report.Sum.{Sum}
 use Rattle.sums.proofs.Agree.{accepted-or, reported-unique}
 use Rattle.lines.specs.Writing.{onto}
-use Rattle.groups.specs.Answer.{sumLines, groupRefusal, Answered, longestAnswer}
-use Rattle.groups.specs.Written.{Answers}
-use Rattle.stream.specs.declared.cutting.Held.{Held}
+use Rattle.desklines.specs.Answer.{sumLines, groupRefusal, Answered, longestAnswer}
+use Rattle.desklines.specs.Written.{Answers}
+use Rattle.cutting.specs.declared.Held.{Held}
 use Rattle.stream.specs.declared.serving.Served.{Served}
-use Rattle.stream.specs.Group.{Group, after, taken}
+use Rattle.cutting.specs.Group.{Group, after, taken}
 use Rattle.stream.specs.Desk.{Printed, nothing, noSecond, noThird, group, Desk}
 use Rattle.stream.specs.Serving.{State, groupOf, Serves, ended, full, waits, answers, Ends, isReady, ServedBy, Finished}
-use Rattle.stream.proofs.Resuming.{resume}
+use Rattle.cutting.proofs.Resuming.{resume}
 use Rattle.stream.proofs.Printing.{ended-printed}
 use Rattle.stream.proofs.Pieces.{true-false, onto-as-long}
 

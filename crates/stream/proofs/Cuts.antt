@@ -11,9 +11,9 @@ use lib.Seq.{take-all, length-take-le}
 use Rattle.checks.specs.declared.Refusal.{Refusal}
 use Rattle.checks.specs.Check.{accepted, firstRefusal}
 use Rattle.lines.specs.Line.{longestLine, shortestLine}
-use Rattle.groups.specs.Order.{orderSize, orderRefusal}
-use Rattle.groups.specs.Answer.{refusalLine, numberRefusal, earlier, linesRefusal, groupRefusal, Answered}
-use Rattle.stream.specs.Lines.{lineRoom, cutLine}
+use Rattle.desklines.specs.Order.{orderSize, orderRefusal}
+use Rattle.desklines.specs.Answer.{refusalLine, numberRefusal, earlier, linesRefusal, groupRefusal, Answered}
+use Rattle.cutting.specs.Lines.{lineRoom, cutLine}
 
 short-cut : (l : List ℕ) → length l ≤ lineRoom → cutLine l ≡ l
 unfolding cutLine

@@ -1,7 +1,3 @@
-pub mod Keeping
-pub mod Taking
-pub mod Underway
-pub mod Resuming
 pub mod Cuts
 pub mod Printing
 pub mod Pieces

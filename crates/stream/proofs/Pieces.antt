@@ -10,15 +10,15 @@ use lib.Dec.{ltb, leb, eqb}
 use lib.ListN.{length, take, drop, length-append, length-take, length-drop, drop-of-length-le}
 use lib.Seq.{take-at, take-append-add, drop-at, drop-length, drop-drop, length-take-le, take-all}
 use Rattle.checks.proofs.Tables.{both}
-use Rattle.run.proofs.Parts.{part-is}
+use Rattle.parts.proofs.Parts.{part-is}
 use Rattle.lines.specs.Writing.{onto}
-use Rattle.groups.specs.Answer.{Answered, longestAnswer}
-use Rattle.groups.specs.Written.{Answers, Tells}
-use Rattle.stream.specs.declared.cutting.Held.{Held}
-use Rattle.stream.specs.declared.cutting.Progress.{Progress}
+use Rattle.desklines.specs.Answer.{Answered, longestAnswer}
+use Rattle.desklines.specs.Written.{Answers, Tells}
+use Rattle.cutting.specs.declared.Held.{Held}
+use Rattle.cutting.specs.declared.Progress.{Progress}
 use Rattle.stream.specs.declared.serving.Served.{Served}
-use Rattle.stream.specs.Lines.{lineRoom}
-use Rattle.stream.specs.Group.{Group, noGroup, isWhole, withByte, after, taken, groupIn, heldOf, Cuts, Within, Counts, Rooms}
+use Rattle.cutting.specs.Lines.{lineRoom}
+use Rattle.cutting.specs.Group.{Group, noGroup, isWhole, withByte, after, taken, groupIn, heldOf, Cuts, Within, Counts, Rooms}
 use Rattle.stream.specs.Serving.{State, groupOf, keeping, Serves, ended, full, waits, answers, Ends, nothing, oneLine, onlyOne, twoLines, onlyTwo, threeLines, isReady, ServedBy, Finished}
 use Rattle.stream.specs.Desk.{cutShort}
 

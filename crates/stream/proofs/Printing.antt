@@ -7,14 +7,14 @@ use native.Mathlib.Omega.{arith}
 use lib.ListN.{length, take, drop}
 use lib.Seq.{take-add, take-at}
 use Rattle.lines.specs.Writing.{onto}
-use Rattle.groups.specs.Answer.{Answered}
-use Rattle.stream.specs.Lines.{linesOf, cutLine}
-use Rattle.stream.specs.Group.{Group, noGroup, isWhole, after, taken, groupIn, heldOf}
+use Rattle.desklines.specs.Answer.{Answered}
+use Rattle.cutting.specs.Lines.{linesOf, cutLine}
+use Rattle.cutting.specs.Group.{Group, noGroup, isWhole, after, taken, groupIn, heldOf}
 use Rattle.stream.specs.Desk.{Printed, nothing, noSecond, noThird, group, Desk, cutShort}
 use Rattle.stream.specs.Serving.{State, groupOf, keeping, fresh, Serves, ended, full, waits, answers, Ends, oneLine, onlyOne, twoLines, onlyTwo, threeLines, Runs, ends, serves}
 use Rattle.stream.specs.Serving as serving
 use Rattle.stream.proofs.Cuts.{answered-cut}
-use Rattle.stream.proofs.Resuming.{some, linesFrom, resumed, resume, Tidy, tidy-none, tidy-after, resume-after, resume-whole, lines-kept}
+use Rattle.cutting.proofs.Resuming.{some, linesFrom, resumed, resume, Tidy, tidy-none, tidy-after, resume-after, resume-whole, lines-kept}
 
 -- what is kept is what was to be kept
 kept-group : (g : Group) (s : State) → groupOf (keeping (heldOf g) g s) ≡ g

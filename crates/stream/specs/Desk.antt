@@ -3,8 +3,8 @@
 use mathlib.Core.List.{List, [], _∷_, _++_}
 use Prim.Native.Nat.{ℕ}
 use Rattle.checks.specs.declared.Refusal.{Refusal}
-use Rattle.groups.specs.Answer.{refusalLine, Answered}
-use Rattle.stream.specs.Lines.{linesOf}
+use Rattle.desklines.specs.Answer.{refusalLine, Answered}
+use Rattle.cutting.specs.Lines.{linesOf}
 
 -- "A group the input cuts short is 8 at the first missing line, whatever its earlier lines hold, and the program stops."
 unfoldable pub cutShort : ℕ → List ℕ

@@ -1,4 +1,2 @@
-pub mod Lines
-pub mod Group
 pub mod Desk
 pub mod Serving

@@ -6,11 +6,11 @@ use mathlib.Core.List.{List, [], _∷_, _++_}
 use lib.Dec.{ltb, leb, eqb}
 use lib.ListN.{length, take, drop}
 use Rattle.lines.specs.Writing.{onto}
-use Rattle.groups.specs.Answer.{Answered, longestAnswer}
-use Rattle.stream.specs.declared.cutting.Held.{Held}
+use Rattle.desklines.specs.Answer.{Answered, longestAnswer}
+use Rattle.cutting.specs.declared.Held.{Held}
 use Rattle.stream.specs.declared.serving.Served.{Served}
-use Rattle.stream.specs.Lines.{lineRoom}
-use Rattle.stream.specs.Group.{Group, noGroup, isWhole, after, taken, groupIn, heldOf}
+use Rattle.cutting.specs.Lines.{lineRoom}
+use Rattle.cutting.specs.Group.{Group, noGroup, isWhole, after, taken, groupIn, heldOf}
 use Rattle.stream.specs.Desk.{cutShort}
 
 -- what is held between two pieces: the counts, and a buffer for each line

@@ -1,18 +1,18 @@
 // Pieces of the input taken, and what is printed for the groups that end in them.
-use crate::cutting::Held;
-use crate::cutting::cut;
-use crate::cutting::line_room;
-use crate::cutting::start;
-use crate::cutting::within;
 use checks::Refusal;
+use cutting::Held;
+use cutting::cut;
+use cutting::line_room;
+use cutting::start;
+use cutting::within;
 ghost use mathlib.Core.Path.{_≡_};
 ghost use mathlib.Core.Bool.{true};
 ghost use Prim.Native.Nat.{_≤_};
 ghost use lib.ListN.{length, take};
 ghost use Rattle.lines.specs.Writing.{onto};
-ghost use Rattle.groups.specs.Written.{Answers, Tells};
-ghost use Rattle.groups.specs.Answer.{longestAnswer};
-ghost use Rattle.stream.specs.Group.{Rooms, Within};
+ghost use Rattle.desklines.specs.Written.{Answers, Tells};
+ghost use Rattle.desklines.specs.Answer.{longestAnswer};
+ghost use Rattle.cutting.specs.Group.{Rooms, Within};
 ghost use Rattle.stream.specs.Desk.{cutShort};
 ghost use Rattle.stream.specs.Serving.{State, isReady, ServedBy, Finished};
 
@@ -28,7 +28,7 @@ fn ready(held: Held, first: &[u8], second: &[u8], third: &[u8], out: &[u8]) -> b
     ensures { λ r. ⌜ r ≡ isReady (record { held = held; first = now (first .entry); second = now (second .entry); third = now (third .entry) }) (now (out .entry)) ⌝ }
 {
     let room = line_room();
-    let most = groups::longest_answer();
+    let most = desklines::longest_answer();
     if 3 <= held.lines {
         return false;
     }
@@ -67,7 +67,7 @@ fn serve_groups(
     requires { ⌜ isReady (record { held = held; first = now first; second = now second; third = now third }) (now out) ≡ true ⌝ }
     ensures { λ r. ⌜ ServedBy (record { held = held; first = now (first .entry); second = now (second .entry); third = now (third .entry) }) (now (bytes .entry)) (record { held = r .held; first = now (first .exit); second = now (second .exit); third = now (third .exit) }) (now (out .entry)) (now (out .exit)) r ⌝ }
 {
-    let most = groups::longest_answer();
+    let most = desklines::longest_answer();
     let mut h = held;
     let mut taken: usize = 0;
     let mut told: usize = 0;
@@ -125,7 +125,7 @@ fn cut_short(missing: u8, out: &mut [u8]) -> usize
     requires { ⌜ longestAnswer ≤ length (now out) ⌝ }
     ensures { λ r. ⌜ Tells (cutShort missing) (now (out .entry)) (now (out .exit)) r ⌝ }
 {
-    groups::refuse(
+    desklines::refuse(
         Refusal {
             rule: 8,
             place: missing,

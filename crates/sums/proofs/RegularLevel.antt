@@ -6,7 +6,7 @@ use native.Mathlib.Numerals.{add-one}
 use native.Mathlib.Nat.{div-add-mod', zero-add}
 use native.Mathlib.Omega.{arith}
 use lib.ListN.{length}
-use Rattle.walk.specs.Column.{readTo, columnOf}
+use Rattle.columns.specs.Column.{readTo, columnOf}
 use mathlib.Core.Bool.{Bool, true, false, not, cond, _&&_, Bool·beq, true≢false}
 use mathlib.Core.Logic.{inl, inr}
 use Prim.Native.Nat.{max, zero-le}
@@ -31,7 +31,7 @@ use Rattle.settle.specs.Rows.{rowOf, seenRow, farRow}
 use Rattle.settle.specs.declared.rows.Row.{Row}
 use Rattle.settle.specs.declared.rows.Row.the-variants.{Exact, Plus, Minus, Hole}
 use Rattle.bridge.specs.Verdict.{pairOf, Ordered, exact?}
-use Rattle.walk.proofs.Reading.{read-fewer}
+use Rattle.columns.proofs.Reading.{read-fewer}
 use Rattle.bridge.proofs.Read.{read-none}
 use Rattle.bridge.proofs.Decision.{leads, equal-decision}
 use Rattle.bridge.proofs.Answers.{cancelled-sum}

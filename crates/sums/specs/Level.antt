@@ -6,7 +6,7 @@ use mathlib.Core.List.{List}
 use lib.Dec.{leb}
 use lib.ListN.{length}
 use Rattle.numbers.specs.Operand.{Operand, WellFormed}
-use Rattle.walk.specs.Column.{readTo}
+use Rattle.columns.specs.Column.{readTo}
 use Rattle.sums.specs.declared.regular.Differ.{Differ}
 use Rattle.sums.specs.declared.regular.Differ.the-variants.{Never, First, Second}
 

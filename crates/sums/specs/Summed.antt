@@ -15,7 +15,8 @@ use Rattle.checks.specs.declared.Refusal.{Refusal}
 use Rattle.checks.specs.declared.Kind.the-variants.{Regular, Zero}
 use Rattle.checks.specs.Number.{operandOf, exponentOf, nothing}
 use Rattle.checks.specs.Check.{accepted, pairRefusal, singleRefusal}
-use Rattle.place.specs.Placed.{ternaryOf, limbsAfter}
+use Rattle.place.specs.Placed.{limbsAfter}
+use Rattle.location.specs.Ternary.{ternaryOf}
 use Rattle.sums.specs.declared.report.Sum.{Sum}
 
 -- "It returns +0 of precision 2, ternary 0."

@@ -24,7 +24,7 @@ fn zeros(mode: u8, x: Number, y: Number, p: u64, target: &mut [u64]) -> Sum
     requires { ⌜ Room p (length (now target)) ⌝ }
     ensures { λ r. ⌜ ((xl yl : List ℕ) → operandOf x xl .isZero ≡ true → operandOf y yl .isZero ≡ true → Reported plus (modeOf mode) p (operandOf x xl) (operandOf y yl) (now (target .exit)) r) ⌝ }
 {
-    run::clear(target);
+    parts::clear(target);
     zero(zero_sign(mode, x.negative, y.negative), p, 0, 0, 0)
 }
 
@@ -57,7 +57,7 @@ pub fn add(
 ) -> Sum
     ensures { λ r. ⌜ Summed plus mode x (now (xl .entry)) y (now (yl .entry)) p (now (target .entry)) (now (target .exit)) r ⌝ }
 {
-    let refusal = checks::check_pair(mode, x, xl, y, yl, p, target.len());
+    let refusal = admission::check_pair(mode, x, xl, y, yl, p, target.len());
     if refusal.rule != 0 {
         return refused(refusal, 0, 0, 0);
     }
@@ -83,7 +83,7 @@ pub fn subtract(
 pub fn reround(mode: u8, x: Number, xl: &[u64], p: u64, target: &mut [u64]) -> Sum
     ensures { λ r. ⌜ Rerounded mode x (now (xl .entry)) p (now (target .entry)) (now (target .exit)) r ⌝ }
 {
-    let refusal = checks::check_single(mode, x, xl, p, target.len());
+    let refusal = admission::check_single(mode, x, xl, p, target.len());
     if refusal.rule != 0 {
         return refused(refusal, 0, 0, 0);
     }

@@ -219,8 +219,8 @@ fn first_difference(x: Number, xl: &[u64], y: Number, yl: &[u64]) -> Differ
     let n = longer(xl.len() as u64, yl.len() as u64);
     let mut k: u64 = 0;
     while k < n {
-        let u = walk::column(xl, x.precision, 0, k);
-        let v = walk::column(yl, y.precision, 0, k);
+        let u = columns::column(xl, x.precision, 0, k);
+        let v = columns::column(yl, y.precision, 0, k);
         if u < v {
             return Differ::Second(k);
         }
@@ -240,7 +240,7 @@ fn unlike(mode: u8, x: Number, xl: &[u64], y: Number, yl: &[u64], p: u64, target
     let d = first_difference(x, xl, y, yl);
     match d {
         Differ::Never(k) => {
-            run::clear(target);
+            parts::clear(target);
             let sign = zero_sign(mode, x.negative, y.negative);
             zero(sign, p, k, used(k, 0, xl.len()), used(k, 0, yl.len()))
         }

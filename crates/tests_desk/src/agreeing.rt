@@ -1,6 +1,6 @@
 // One input, split in four ways, and whether the desk prints the same for each.
 use crate::pieces::run_split;
-use groups::LONGEST_ANSWER;
+use desklines::LONGEST_ANSWER;
 
 fn print(text: &[u8]) {
     io::write_all(1, text);
@@ -44,7 +44,7 @@ fn print_told(bytes: &[u8], whole: &[u8], part: &mut [u8; 4096]) {
     print(whole);
     let a = agrees(bytes, 1, whole, part);
     let b = agrees(bytes, 7, whole, part);
-    let c = agrees(bytes, stream::LINE_ROOM, whole, part);
+    let c = agrees(bytes, cutting::LINE_ROOM, whole, part);
     if a & b & c {
         print(b" agree");
     }

@@ -1,6 +1,6 @@
 // One input, split into pieces of one size, and what the desk prints for it, in hexadecimal.
-use stream::Held;
-use stream::LINE_ROOM;
+use cutting::Held;
+use cutting::LINE_ROOM;
 ghost use Prim.Native.Nat.{_≤_};
 ghost use lib.ListN.{length};
 
@@ -91,7 +91,7 @@ fn serve_pieces(
 ) -> usize
     ensures { λ r. ⌜ r ≤ 4096 ⌝ }
 {
-    let mut held = stream::start();
+    let mut held = cutting::start();
     let mut at: usize = 0;
     let mut place: usize = 0;
     while at < bytes.len() {

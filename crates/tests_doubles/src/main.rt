@@ -3,7 +3,7 @@ use checks::Number;
 use checks::Refusal;
 use doubles::Converted;
 use doubles::Enclosed;
-use doubles::FromDouble;
+use unpack::FromDouble;
 ghost use Prim.Native.Nat.{_≤_};
 
 // The pattern of +infinity; above it, the sign's bit apart, stand those of NaNs.
@@ -98,7 +98,7 @@ fn run_number(
 fn run_double(bits: u64, target: &mut [u64], out: &mut [u8; 4096]) -> usize
     ensures { λ r. ⌜ r ≤ 4096 ⌝ }
 {
-    let f = doubles::from_double(double_of(bits), target);
+    let f = unpack::from_double(double_of(bits), target);
     read(f, target, out)
 }
 

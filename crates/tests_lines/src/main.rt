@@ -57,7 +57,7 @@ fn same_number(a: Number, b: Number) -> bool {
 
 // Whether the head alone is what it must be beside the answer of the whole line: the same, or accepted where the limbs are refused.
 fn head_agrees(line: &[u8], whole: Head) -> bool {
-    let head = lines::read_head(line);
+    let head = reader::read_head(line);
     let told = head.refusal;
     let given = whole.refusal;
     if (given.rule == 3) | (given.rule == 5) {
@@ -70,7 +70,7 @@ fn head_agrees(line: &[u8], whole: Head) -> bool {
 fn run_write(x: Number, limbs: &[u64], room: &mut [u8], out: &mut [u8; 4096]) -> usize
     ensures { λ r. ⌜ r ≤ 4096 ⌝ }
 {
-    let w = lines::write_line(x, limbs, room);
+    let w = writer::write_line(x, limbs, room);
     written(w, room, out)
 }
 
@@ -78,7 +78,7 @@ fn run_write(x: Number, limbs: &[u64], room: &mut [u8], out: &mut [u8; 4096]) ->
 fn run_read(line: &[u8], target: &mut [u64], out: &mut [u8; 4096]) -> usize
     ensures { λ r. ⌜ r ≤ 4096 ⌝ }
 {
-    let h = lines::read_line(line, target);
+    let h = reader::read_line(line, target);
     if !head_agrees(line, h) {
         return 0;
     }

@@ -2,8 +2,3 @@ pub mod Moving
 pub mod Tails
 pub mod Showing
 pub mod Walking
-pub mod Reading
-pub mod Sizes
-pub mod Resting
-pub mod Dropping
-pub mod Leading

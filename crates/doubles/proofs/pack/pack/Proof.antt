@@ -2,8 +2,8 @@
 use Prim.Native.Nat.{_/_, _^_}
 use native.Mathlib.Omega.{arith}
 use Rattle.numbers.specs.Limits.{bias}
-use Rattle.doubles.specs.Double.{doubleLeast, doubleMost, packed, double}
-use Rattle.doubles.proofs.Bits.{sign-le, not-nan, packed-no-nan}
+use Rattle.unpack.specs.Double.{doubleLeast, doubleMost, packed, double}
+use Rattle.unpack.proofs.Bits.{sign-le, not-nan, packed-no-nan}
 use Rattle.doubles.proofs.Cases.{least-literal, most-literal}
 use borrow.Author.Needs.{needs}
 use Rattle.doubles.proofs.pack.pack.Statement.{statement}

@@ -1,5 +1,5 @@
 -- `doubles::pack::sign_bit`: by cases, as the definition. Assumes nothing.
-use Rattle.doubles.specs.Double.{signBit}
+use Rattle.unpack.specs.Double.{signBit}
 use Rattle.doubles.proofs.pack.sign_bit.Statement.{statement}
 use Rattle.doubles.proofs.pack.sign_bit.Tie as tie
 

@@ -1,7 +1,7 @@
 -- `doubles::pack::zero_of`: the pattern with every bit below the sign 0 is no NaN's. Assumes nothing.
 use borrow.Author.Needs.{needs}
-use Rattle.doubles.specs.Double.{double}
-use Rattle.doubles.proofs.Bits.{zero-no-nan, not-nan}
+use Rattle.unpack.specs.Double.{double}
+use Rattle.unpack.proofs.Bits.{zero-no-nan, not-nan}
 use Rattle.doubles.proofs.pack.zero_of.Statement.{statement}
 use Rattle.doubles.proofs.pack.zero_of.Tie as tie
 

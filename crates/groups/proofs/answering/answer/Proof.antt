@@ -1,7 +1,7 @@
 -- `groups::answer`: room for the limbs, and the group. Assumes nothing.
 use mathlib.Core.Path.{refl}
 use Rattle.numbers.specs.Limits.{mostPrecision, limbsFor}
-use Rattle.groups.specs.Written.{mostLimbs}
+use Rattle.desklines.specs.Written.{mostLimbs}
 use native.Mathlib.Omega.{arith}
 use Rattle.groups.proofs.Groups.{told-answers}
 use borrow.Author.Needs.{needs}
@@ -10,7 +10,7 @@ use Rattle.groups.proofs.answering.answer.Tie as tie
 use Rattle.groups.proofs.answering.answer.Reads as reads
 use Rattle.groups.proofs.answering.answer.Lts as lts
 use Rattle.groups.proofs.answering.answer_first.Reads as answer-first-reads
-use Rattle.groups.proofs.telling.longest_answer.Reads as longest-answer-reads
+use Rattle.desklines.proofs.longest_answer.Reads as longest-answer-reads
 
 longest-answer-requires : tie.Need-longest-answer-requires
 longest-answer-requires c κs = search needs

@@ -8,7 +8,7 @@ use Rattle.groups.proofs.answering.answer_sum.Reads as reads
 use Rattle.groups.proofs.answering.answer_sum.Lts as lts
 use Rattle.groups.proofs.answering.sum.Reads as sum-reads
 use Rattle.groups.proofs.number.limb_count.Reads as limb-count-reads
-use Rattle.groups.proofs.telling.put_sum.Reads as put-sum-reads
+use Rattle.desklines.proofs.put_sum.Reads as put-sum-reads
 
 limb-count-requires : tie.Need-limb-count-requires
 limb-count-requires c κs = search needs

@@ -1,7 +1,7 @@
 -- `groups::most_limbs`: the limbs of the largest precision. Assumes nothing.
 use mathlib.Core.Path.{refl}
 use Rattle.numbers.specs.Limits.{mostPrecision, limbsFor}
-use Rattle.groups.specs.Written.{mostLimbs}
+use Rattle.desklines.specs.Written.{mostLimbs}
 use Rattle.groups.proofs.number.most_limbs.Statement.{statement}
 use Rattle.groups.proofs.number.most_limbs.Tie as tie
 

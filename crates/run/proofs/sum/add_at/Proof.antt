@@ -6,7 +6,7 @@ use native.Mathlib.Omega.{arith}
 use lib.ListN.{length, drop, drop-of-length-le}
 use borrow.Rule.Slice.PartMut.{take-put}
 use Rattle.run.proofs.Adding.{nothing-added}
-use Rattle.run.proofs.Parts.{part-is, drop-put}
+use Rattle.parts.proofs.Parts.{part-is, drop-put}
 use borrow.Author.Needs.{needs}
 use Rattle.run.proofs.sum.add_at.Statement.{statement}
 use Rattle.run.proofs.sum.add_at.Tie as tie

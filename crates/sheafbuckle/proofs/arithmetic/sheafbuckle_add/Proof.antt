@@ -1,6 +1,6 @@
 -- `arithmetic::sheafbuckle_add`: the kernel's own, over the numbers that the plain fields say. Assumes nothing.
 use borrow.Author.Needs.{needs}
-use Rattle.sheafbuckle.proofs.Told.{summed-told}
+use Rattle.plain.proofs.Told.{summed-told}
 use Rattle.sheafbuckle.proofs.arithmetic.sheafbuckle_add.Statement.{statement}
 use Rattle.sheafbuckle.proofs.arithmetic.sheafbuckle_add.Tie as tie
 

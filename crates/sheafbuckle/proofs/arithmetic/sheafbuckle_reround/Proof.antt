@@ -1,6 +1,6 @@
 -- `arithmetic::sheafbuckle_reround`: the kernel's own, over the number that the plain fields say. Assumes nothing.
 use borrow.Author.Needs.{needs}
-use Rattle.sheafbuckle.proofs.Told.{rerounded-told}
+use Rattle.plain.proofs.Told.{rerounded-told}
 use Rattle.sheafbuckle.proofs.arithmetic.sheafbuckle_reround.Statement.{statement}
 use Rattle.sheafbuckle.proofs.arithmetic.sheafbuckle_reround.Tie as tie
 

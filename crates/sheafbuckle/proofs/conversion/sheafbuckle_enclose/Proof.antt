@@ -1,5 +1,5 @@
 -- `conversion::sheafbuckle_enclose`: the kernel's own, over the number that the plain fields say. Assumes nothing.
-use Rattle.sheafbuckle.proofs.Told.{enclosed-told}
+use Rattle.plain.proofs.Told.{enclosed-told}
 use borrow.Author.Needs.{needs}
 use Rattle.sheafbuckle.proofs.conversion.sheafbuckle_enclose.Statement.{statement}
 use Rattle.sheafbuckle.proofs.conversion.sheafbuckle_enclose.Tie as tie

@@ -1,5 +1,5 @@
 -- `conversion::sheafbuckle_to_double`: the kernel's own, over the number that the plain fields say. Assumes nothing.
-use Rattle.sheafbuckle.proofs.Told.{converted-told}
+use Rattle.plain.proofs.Told.{converted-told}
 use borrow.Author.Needs.{needs}
 use Rattle.sheafbuckle.proofs.conversion.sheafbuckle_to_double.Statement.{statement}
 use Rattle.sheafbuckle.proofs.conversion.sheafbuckle_to_double.Tie as tie

@@ -1,5 +1,5 @@
 -- `ordering::sheafbuckle_compare`: the kernel's own, over the numbers that the plain fields say. Assumes nothing.
-use Rattle.sheafbuckle.proofs.Told.{compared-told}
+use Rattle.plain.proofs.Told.{compared-told}
 use borrow.Author.Needs.{needs}
 use Rattle.sheafbuckle.proofs.ordering.sheafbuckle_compare.Statement.{statement}
 use Rattle.sheafbuckle.proofs.ordering.sheafbuckle_compare.Tie as tie

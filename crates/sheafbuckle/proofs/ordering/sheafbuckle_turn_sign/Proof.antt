@@ -1,5 +1,5 @@
 -- `ordering::sheafbuckle_turn_sign`: the kernel's own, over the number that the plain fields say. Assumes nothing.
-use Rattle.sheafbuckle.proofs.Told.{turned-told}
+use Rattle.plain.proofs.Told.{turned-told}
 use borrow.Author.Needs.{needs}
 use Rattle.sheafbuckle.proofs.ordering.sheafbuckle_turn_sign.Statement.{statement}
 use Rattle.sheafbuckle.proofs.ordering.sheafbuckle_turn_sign.Tie as tie

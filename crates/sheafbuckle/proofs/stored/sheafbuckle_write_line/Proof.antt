@@ -1,5 +1,5 @@
 -- `stored::sheafbuckle_write_line`: the kernel's own, over the number that the plain fields say. Assumes nothing.
-use Rattle.sheafbuckle.proofs.Told.{written-told, room-told}
+use Rattle.plain.proofs.Told.{written-told, room-told}
 use borrow.Author.Needs.{needs}
 use Rattle.sheafbuckle.proofs.stored.sheafbuckle_write_line.Statement.{statement}
 use Rattle.sheafbuckle.proofs.stored.sheafbuckle_write_line.Tie as tie

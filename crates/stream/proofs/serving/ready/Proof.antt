@@ -6,8 +6,8 @@ use Rattle.stream.proofs.serving.ready.Statement.{statement}
 use Rattle.stream.proofs.serving.ready.Tie as tie
 use Rattle.stream.proofs.serving.ready.Reads as reads
 use Rattle.stream.proofs.serving.ready.Lts as lts
-use Rattle.groups.proofs.longest_answer.Reads as longest-answer-reads
-use Rattle.stream.proofs.cutting.line_room.Reads as line-room-reads
+use Rattle.desklines.proofs.longest_answer.Reads as longest-answer-reads
+use Rattle.cutting.proofs.line_room.Reads as line-room-reads
 
 line-room-requires : tie.Need-line-room-requires
 line-room-requires c κs = search needs

@@ -9,9 +9,9 @@ use Rattle.stream.proofs.serving.serve_groups.Statement.{statement}
 use Rattle.stream.proofs.serving.serve_groups.Tie as tie
 use Rattle.stream.proofs.serving.serve_groups.Reads as reads
 use Rattle.stream.proofs.serving.serve_groups.Lts as lts
-use Rattle.groups.proofs.longest_answer.Reads as longest-answer-reads
-use Rattle.stream.proofs.cutting.cut.Reads as cut-reads
-use Rattle.stream.proofs.cutting.start.Reads as start-reads
+use Rattle.desklines.proofs.longest_answer.Reads as longest-answer-reads
+use Rattle.cutting.proofs.cut.Reads as cut-reads
+use Rattle.cutting.proofs.start.Reads as start-reads
 use Rattle.stream.proofs.serving.answer.Reads as answer-reads
 
 abbrev Inv-loop : tie.InvT-loop

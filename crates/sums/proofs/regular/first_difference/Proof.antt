@@ -4,7 +4,7 @@ use Prim.Native.Nat.{_-_, _≤_, max}
 use native.Mathlib.Numerals.{add-one}
 use native.Mathlib.Omega.{arith}
 use lib.ListN.{length}
-use Rattle.walk.specs.Column.{readTo}
+use Rattle.columns.specs.Column.{readTo}
 use borrow.Author.Needs.{needs}
 use Rattle.sums.proofs.RegularLevel.{level-start, next-less, next-same}
 use Rattle.sums.proofs.regular.first_difference.Statement.{statement}

@@ -1,0 +1,28 @@
+-- `admission::pair_passes`: every test holds, so nothing is refused. Assumes nothing.
+use mathlib.Core.Bool.{false≢true}
+use borrow.Author.Tests.{le-leb, not-false}
+use Rattle.checks.specs.Check.{modeHolds}
+use Rattle.checks.proofs.Passing.{pair-passes}
+use borrow.Author.Needs.{needs}
+use Rattle.admission.proofs.pair_passes.Statement.{statement}
+use Rattle.admission.proofs.pair_passes.Tie as tie
+
+returns : tie.Need-returns
+returns c = λ h. absurd (false≢true h)
+
+target-passes-requires : tie.Need-target-passes-requires
+target-passes-requires c κs = search needs
+
+returns-2 : tie.Need-returns-2
+returns-2 c = λ h. absurd (false≢true h)
+
+both-pass-requires : tie.Need-both-pass-requires
+both-pass-requires c κs = search needs
+
+returns-3 : tie.Need-returns-3
+unfolding modeHolds
+returns-3 c = λ h. let b = c .both-pass .ensures h in pair-passes _ _ _ _ _ (le-leb _ 3 (c .before .before .before .if1 .left)) (b .0) (b .1) (c .before .before .target-passes .ensures (not-false _ (c .before .if2 .left)))
+
+pub pair-passes-spec : {M : Type 1} → statement M
+pair-passes-spec =
+    tie.close (tie.spec returns target-passes-requires returns-2 both-pass-requires returns-3)

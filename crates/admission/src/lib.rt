@@ -1,0 +1,148 @@
+// Refusals 1 to 5 of a call: one in which every test holds is told at once, any other by the tests in their order.
+use checks::Number;
+use checks::Refusal;
+ghost use mathlib.Core.Path.{_≡_};
+ghost use mathlib.Core.Bool.{true, _&&_};
+ghost use Prim.Native.Nat.{_<_};
+ghost use lib.ListN.{length};
+ghost use Rattle.checks.specs.Number.{operandOf};
+ghost use Rattle.checks.specs.Check.{accepted, modeHolds, topBitHolds, spareBitsHold, pairRefusal, singleRefusal, comparedRefusal, convertedRefusal, aloneRefusal};
+ghost use Rattle.checks.specs.Passes.{TargetPasses, Passes};
+
+// Whether a target passes tests 2 and 3.
+fn target_passes(p: u64, n: usize) -> bool
+    ensures { λ r. ⌜ (r ≡ true → TargetPasses p n) ⌝ }
+{
+    if !checks::precision_holds(p) {
+        return false;
+    }
+    n as u64 == (p + 63) / 64
+}
+
+// Whether the limbs of a regular number pass test 5.
+fn limbs_pass(p: u64, l: &[u64]) -> bool
+    requires { ⌜ 0 < length (now l) ⌝ }
+    ensures { λ r. ⌜ (r ≡ true → topBitHolds (now (l .entry)) && spareBitsHold p (now (l .entry)) ≡ true) ⌝ }
+{
+    if l[l.len() - 1] < checks::FIRST_DIGIT {
+        return false;
+    }
+    checks::low_holds(p, l[0])
+}
+
+// Whether an operand passes tests 2 to 5.
+fn passes(x: Number, l: &[u64]) -> bool
+    ensures { λ r. ⌜ (r ≡ true → Passes (operandOf x (now (l .entry)))) ⌝ }
+{
+    if !target_passes(x.precision, l.len()) {
+        return false;
+    }
+    if !checks::exponent_holds(x) {
+        return false;
+    }
+    if checks::is_zero(x) {
+        return true;
+    }
+    limbs_pass(x.precision, l)
+}
+
+// Whether two operands pass.
+fn both_pass(x: Number, xl: &[u64], y: Number, yl: &[u64]) -> bool
+    ensures { λ r. ⌜ (r ≡ true → Passes (operandOf x (now (xl .entry))) × Passes (operandOf y (now (yl .entry)))) ⌝ }
+{
+    if !passes(x, xl) {
+        return false;
+    }
+    passes(y, yl)
+}
+
+// Whether a mode and an operand pass.
+fn one_passes(mode: u8, x: Number, xl: &[u64]) -> bool
+    ensures { λ r. ⌜ (r ≡ true → (modeHolds mode ≡ true) × Passes (operandOf x (now (xl .entry)))) ⌝ }
+{
+    if checks::MOST_MODE < mode {
+        return false;
+    }
+    passes(x, xl)
+}
+
+// Whether a mode, two operands and a target pass.
+fn pair_passes(mode: u8, x: Number, xl: &[u64], y: Number, yl: &[u64], p: u64, n: usize) -> bool
+    ensures { λ r. ⌜ (r ≡ true → pairRefusal mode (operandOf x (now (xl .entry))) (operandOf y (now (yl .entry))) p n ≡ accepted) ⌝ }
+{
+    if checks::MOST_MODE < mode {
+        return false;
+    }
+    if !target_passes(p, n) {
+        return false;
+    }
+    both_pass(x, xl, y, yl)
+}
+
+// Whether a mode, an operand and a target pass.
+fn single_passes(mode: u8, x: Number, xl: &[u64], p: u64, n: usize) -> bool
+    ensures { λ r. ⌜ (r ≡ true → singleRefusal mode (operandOf x (now (xl .entry))) p n ≡ accepted) ⌝ }
+{
+    if !target_passes(p, n) {
+        return false;
+    }
+    one_passes(mode, x, xl)
+}
+
+// Refusals 1 to 5 of two operands under a mode, with a target of p digits in n limbs.
+pub fn check_pair(
+    mode: u8,
+    x: Number,
+    xl: &[u64],
+    y: Number,
+    yl: &[u64],
+    p: u64,
+    n: usize,
+) -> Refusal
+    ensures { λ r. ⌜ r ≡ pairRefusal mode (operandOf x (now (xl .entry))) (operandOf y (now (yl .entry))) p n ⌝ }
+{
+    if pair_passes(mode, x, xl, y, yl, p, n) {
+        return Refusal { rule: 0, place: 0 };
+    }
+    refusals::refuse(mode, x, xl, y, yl, p, n)
+}
+
+// The same of one operand and a target.
+pub fn check_single(mode: u8, x: Number, xl: &[u64], p: u64, n: usize) -> Refusal
+    ensures { λ r. ⌜ r ≡ singleRefusal mode (operandOf x (now (xl .entry))) p n ⌝ }
+{
+    if single_passes(mode, x, xl, p, n) {
+        return Refusal { rule: 0, place: 0 };
+    }
+    refusals::refuse(mode, x, xl, x, xl, p, n)
+}
+
+// Refusals 2 to 5 of two operands, without a mode or a target.
+pub fn check_compared(x: Number, xl: &[u64], y: Number, yl: &[u64]) -> Refusal
+    ensures { λ r. ⌜ r ≡ comparedRefusal (operandOf x (now (xl .entry))) (operandOf y (now (yl .entry))) ⌝ }
+{
+    if both_pass(x, xl, y, yl) {
+        return Refusal { rule: 0, place: 0 };
+    }
+    refusals::refuse_operands(0, x, xl, y, yl)
+}
+
+// Refusals 1 to 5 of one operand under a mode, without a target.
+pub fn check_converted(mode: u8, x: Number, xl: &[u64]) -> Refusal
+    ensures { λ r. ⌜ r ≡ convertedRefusal mode (operandOf x (now (xl .entry))) ⌝ }
+{
+    if one_passes(mode, x, xl) {
+        return Refusal { rule: 0, place: 0 };
+    }
+    refusals::refuse_operands(mode, x, xl, x, xl)
+}
+
+// Refusals 2 to 5 of one operand.
+pub fn check_alone(x: Number, xl: &[u64]) -> Refusal
+    ensures { λ r. ⌜ r ≡ aloneRefusal (operandOf x (now (xl .entry))) ⌝ }
+{
+    if passes(x, xl) {
+        return Refusal { rule: 0, place: 0 };
+    }
+    refusals::refuse_operands(0, x, xl, x, xl)
+}

@@ -1,0 +1,4 @@
+pub mod Keeping
+pub mod Taking
+pub mod Underway
+pub mod Resuming

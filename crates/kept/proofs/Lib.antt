@@ -1,0 +1,4 @@
+pub mod Moves
+pub mod Reaching
+pub mod Unit
+pub mod OneLimb

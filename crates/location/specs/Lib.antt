@@ -1,0 +1,2 @@
+pub mod Ternary
+pub mod Location

@@ -1,0 +1,4 @@
+pub mod Sizes
+pub mod Resting
+pub mod Dropping
+pub mod Leading

@@ -1,0 +1,3 @@
+pub mod Cell
+pub mod Heads
+pub mod Run

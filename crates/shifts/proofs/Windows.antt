@@ -1,0 +1,136 @@
+-- Laws of a run read at any bit: 64 bits lie in one limb or across two, and a run moved by bits is made of such windows. Assumes nothing.
+use mathlib.Core.Path.{_≡_, refl, sym, ap, _∙_, subst}
+use Prim.Native.Nat.{ℕ, suc, _+_, _-_, _*_, _/_, _%_, _^_, _≤_, _<_}
+use native.Mathlib.Nat.{add-mul-div-left, add-mul-mod-self-left, add-mod-mod, mod-eq-of-lt, mod-lt, mul-mod-left, mul-one, add-comm, add-zero, mul-assoc, div-one}
+use native.Mathlib.Omega.{arith}
+use native.Mathlib.Numerals.{add-one}
+use mathlib.Core.List.{List}
+use lib.ListN.{length, take, drop, getD, set}
+use lib.Arith.{digits-lt}
+use lib.Pow.{pow-pos, pow-add, mod-pow-add, shl-shr, shr-shr, shr-lt}
+use lib.Seq.{take-set-le, getD-set-same}
+use lib.Bits.{bitOr, or-shifted-r}
+use Rattle.limb.specs.Value.{valueIn, Below}
+use Rattle.limb.proofs.Value.{value-unique, value-take, value-drop, value-shr, base-pow}
+use Rattle.shifts.specs.LowLimbs.{LowLimbs}
+
+-- what a left shift by u keeps at j + u bits: the low j bits of h, moved up
+kept : (h j u : ℕ) → h * 2 ^ u % 2 ^ (j + u) ≡ h % 2 ^ j * 2 ^ u
+kept h j u =
+    mod-pow-add (h * 2 ^ u) j u ∙ ap (λ (m : ℕ). m % 2 ^ j * 2 ^ u + h * 2 ^ u % 2 ^ u) (shl-shr h u)
+    ∙ ap (λ (m : ℕ). h % 2 ^ j * 2 ^ u + m) (mul-mod-left h (2 ^ u)) ∙ add-zero _
+
+-- the window at bit t of l + 2 ^ (t + u) * (h + 2 ^ (t + u) * r)
+window-bits : (t u l h r : ℕ) → l < 2 ^ (t + u)
+    → (l + 2 ^ (t + u) * (h + 2 ^ (t + u) * r)) / 2 ^ t % 2 ^ (t + u) ≡ bitOr (l / 2 ^ t) (h * 2 ^ u % 2 ^ (t + u))
+window-bits t u l h r hl =
+    let p : ℕ = 2 ^ t in
+    let q : ℕ = 2 ^ u in
+    let b : ℕ = 2 ^ (t + u) in
+    let x : ℕ = l / p in
+    let y : ℕ = h % p in
+    let eb : b ≡ p * q = pow-add 2 t u in
+    let hx : x < q = shr-lt u t (subst (λ (n : ℕ). l < 2 ^ n) (add-comm t u) hl) in
+    let hy : y < p = mod-lt h (pow-pos t) in
+    let small : y * q + x < b = subst (λ (n : ℕ). y * q + x < n) (sym eb) (digits-lt hy hx) in
+    let spread : l + b * (h + b * r) ≡ l + p * (h * q + b * (q * r)) = omega (arith, ap (λ (m : ℕ). m * h) eb, ap (λ (m : ℕ). m * (b * r)) eb) in
+    let moved : (l + b * (h + b * r)) / p ≡ x + (h * q + b * (q * r)) = ap (λ (m : ℕ). m / p) spread ∙ add-mul-div-left l (h * q + b * (q * r)) (pow-pos t) in
+    let dropped : (x + (h * q + b * (q * r))) % b ≡ (x + h * q) % b = ap (λ (m : ℕ). m % b) (omega arith) ∙ add-mul-mod-self-left (x + h * q) b (q * r) in
+    let pieces : (x + h * q) % b ≡ y * q + x = sym (add-mod-mod x (h * q) b) ∙ ap (λ (m : ℕ). (x + m) % b) (kept h t u) ∙ ap (λ (m : ℕ). m % b) (add-comm x (y * q)) ∙ mod-eq-of-lt small in
+    ap (λ (m : ℕ). m % b) moved ∙ dropped ∙ pieces ∙ sym (ap (λ (m : ℕ). bitOr x m) (kept h t u) ∙ or-shifted-r y u x hx)
+
+-- the 64 bits from bit t of limb q on
+module _ (l : List ℕ) (q t : ℕ) (ht : t < 64) (h : Below (2 ^ 64) l) where
+  from-limb : valueIn (2 ^ 64) l / 2 ^ (64 * q + t) ≡ valueIn (2 ^ 64) (drop q l) / 2 ^ t
+  from-limb =
+      sym (shr-shr (valueIn (2 ^ 64) l) (64 * q) t) ∙ ap (λ (m : ℕ). valueIn (2 ^ 64) l / m / 2 ^ t) (sym (base-pow q))
+      ∙ ap (λ (m : ℕ). m / 2 ^ t) (value-shr (2 ^ 64) q l h)
+
+  two-limbs : valueIn (2 ^ 64) (drop q l) ≡ getD l q 0 + 2 ^ 64 * (getD l (q + 1) 0 + 2 ^ 64 * valueIn (2 ^ 64) (drop (suc (q + 1)) l))
+  two-limbs = value-drop (2 ^ 64) q l ∙ ap (λ (m : ℕ). getD l q 0 + 2 ^ 64 * m) (rw (add-one q) (value-drop (2 ^ 64) (suc q) l))
+
+  -- at a limb's own start they are the limb
+  pub whole : t ≡ 0 → getD l q 0 ≡ valueIn (2 ^ 64) l / 2 ^ (64 * q + t) % 2 ^ 64
+  whole z =
+      sym (ap (λ (m : ℕ). m % 2 ^ 64) (from-limb ∙ ap (λ (m : ℕ). valueIn (2 ^ 64) (drop q l) / 2 ^ m) z ∙ div-one _ ∙ value-drop (2 ^ 64) q l)
+      ∙ add-mul-mod-self-left (getD l q 0) (2 ^ 64) _ ∙ mod-eq-of-lt (h q))
+
+  -- elsewhere they are the high bits of the limb and the low bits of the next
+  pub across : bitOr (getD l q 0 / 2 ^ t) (getD l (q + 1) 0 * 2 ^ (64 - t) % 2 ^ 64) ≡ valueIn (2 ^ 64) l / 2 ^ (64 * q + t) % 2 ^ 64
+  across =
+      let e : t + (64 - t) ≡ 64 = omega arith in
+      sym (ap (λ (m : ℕ). m % 2 ^ 64) (from-limb ∙ ap (λ (m : ℕ). m / 2 ^ t) two-limbs)
+      ∙ rw e at (window-bits t (64 - t) (getD l q 0) (getD l (q + 1) 0) (valueIn (2 ^ 64) (drop (suc (q + 1)) l)) (rw e (h q))))
+
+-- moved up by m and n bits at once
+moved-twice : (x m n : ℕ) → x * 2 ^ (m + n) ≡ x * 2 ^ m * 2 ^ n
+moved-twice x m n = ap (λ (p : ℕ). x * p) (pow-add 2 m n) ∙ sym (mul-assoc x (2 ^ m) (2 ^ n))
+
+-- a run times p, with its lowest limb apart
+lowest-times : (B : ℕ) (l : List ℕ) (p : ℕ) → valueIn B l * p ≡ getD l 0 0 * p + B * (valueIn B (drop 1 l) * p)
+lowest-times B l p = omega (arith, ap (λ (m : ℕ). m * p) (value-drop B 0 l))
+
+-- limb i of a run that is moved up by k bits
+module _ (l : List ℕ) (k i : ℕ) (h : Below (2 ^ 64) l) where
+  -- below limb k / 64 it is 0
+  pub raised-below : i < k / 64 → 0 ≡ valueIn (2 ^ 64) l * 2 ^ k / 2 ^ (64 * i) % 2 ^ 64
+  raised-below hi =
+      let x : ℕ = valueIn (2 ^ 64) l in
+      let j : ℕ = k - 64 * (i + 1) in
+      let ek : k ≡ (j + 64) + 64 * i = omega arith in
+      let e : x * 2 ^ k ≡ x * 2 ^ j * 2 ^ 64 * 2 ^ (64 * i) =
+      ap (λ (m : ℕ). x * 2 ^ m) ek ∙ moved-twice x (j + 64) (64 * i) ∙ ap (λ (m : ℕ). m * 2 ^ (64 * i)) (moved-twice x j 64) in
+      sym (rw (e, shl-shr (x * 2 ^ j * 2 ^ 64) (64 * i)) (mul-mod-left (x * 2 ^ j) (2 ^ 64)))
+
+  -- from there on the whole limbs of the move only change its place
+  from-there : k / 64 ≤ i → valueIn (2 ^ 64) l * 2 ^ k / 2 ^ (64 * i) ≡ valueIn (2 ^ 64) l * 2 ^ (k % 64) / 2 ^ (64 * (i - k / 64))
+  from-there hi =
+      let x : ℕ = valueIn (2 ^ 64) l in
+      let q : ℕ = k / 64 in
+      let ek : k ≡ k % 64 + 64 * q = omega arith in
+      let ei : 64 * i ≡ 64 * q + 64 * (i - q) = omega arith in
+      let e : x * 2 ^ k ≡ x * 2 ^ (k % 64) * 2 ^ (64 * q) = ap (λ (m : ℕ). x * 2 ^ m) ek ∙ moved-twice x (k % 64) (64 * q) in
+      ap (λ (m : ℕ). m / 2 ^ (64 * i)) e ∙ ap (λ (m : ℕ). x * 2 ^ (k % 64) * 2 ^ (64 * q) / 2 ^ m) ei
+      ∙ sym (shr-shr (x * 2 ^ (k % 64) * 2 ^ (64 * q)) (64 * q) (64 * (i - q))) ∙ ap (λ (m : ℕ). m / 2 ^ (64 * (i - q))) (shl-shr (x * 2 ^ (k % 64)) (64 * q))
+
+  -- a move by whole limbs alone
+  pub raised-whole : k / 64 ≤ i → k % 64 ≡ 0 → getD l (i - k / 64) 0 ≡ valueIn (2 ^ 64) l * 2 ^ k / 2 ^ (64 * i) % 2 ^ 64
+  raised-whole hi z =
+      let x : ℕ = valueIn (2 ^ 64) l in
+      let j : ℕ = i - k / 64 in
+      let none : 64 * j + 0 ≡ 64 * j = omega arith in
+      (rw none at (whole l j 0 (omega arith) h refl))
+      ∙ sym (ap (λ (m : ℕ). m % 2 ^ 64) (from-there hi ∙ ap (λ (m : ℕ). x * 2 ^ m / 2 ^ (64 * j)) z ∙ ap (λ (m : ℕ). m / 2 ^ (64 * j)) (mul-one x)))
+
+  -- the lowest limb that is not all 0
+  pub raised-lowest : k / 64 ≤ i → i - k / 64 ≡ 0 → getD l 0 0 * 2 ^ (k % 64) % 2 ^ 64 ≡ valueIn (2 ^ 64) l * 2 ^ k / 2 ^ (64 * i) % 2 ^ 64
+  raised-lowest hi z =
+      let x : ℕ = valueIn (2 ^ 64) l in
+      let p : ℕ = 2 ^ (k % 64) in
+      let r : ℕ = valueIn (2 ^ 64) (drop 1 l) in
+      let e : x * p ≡ getD l 0 0 * p + 2 ^ 64 * (r * p) = lowest-times (2 ^ 64) l p in
+      sym (ap (λ (m : ℕ). m % 2 ^ 64) (from-there hi ∙ ap (λ (m : ℕ). x * p / 2 ^ (64 * m)) z ∙ div-one _ ∙ e) ∙ add-mul-mod-self-left (getD l 0 0 * p) (2 ^ 64) (r * p))
+
+  -- above it, the 64 bits of the run that come there
+  pub raised-above : k / 64 ≤ i → (k % 64 ≡ 0 → ⊥) → (i - k / 64 ≡ 0 → ⊥)
+      → valueIn (2 ^ 64) l / 2 ^ (64 * (i - k / 64 - 1) + (64 - k % 64)) % 2 ^ 64 ≡ valueIn (2 ^ 64) l * 2 ^ k / 2 ^ (64 * i) % 2 ^ 64
+  raised-above hi nb nj =
+      let x : ℕ = valueIn (2 ^ 64) l in
+      let b : ℕ = k % 64 in
+      let n : ℕ = 64 * (i - k / 64 - 1) + (64 - b) in
+      let ej : 64 * (i - k / 64) ≡ b + n = omega arith in
+      sym (ap (λ (m : ℕ). m % 2 ^ 64) (from-there hi ∙ ap (λ (m : ℕ). x * 2 ^ b / 2 ^ m) ej ∙ sym (shr-shr (x * 2 ^ b) b n) ∙ ap (λ (m : ℕ). m / 2 ^ n) (shl-shr x b)))
+
+-- one limb more of a number y, written at i: its 64 bits from bit 64 i on
+pub limb-written : (t : List ℕ) (y i w : ℕ) → i < length t → w ≡ y / 2 ^ (64 * i) % 2 ^ 64
+    → valueIn (2 ^ 64) (take i t) ≡ y % (2 ^ 64) ^ i
+    → valueIn (2 ^ 64) (take (i + 1) (set t i w)) ≡ y % (2 ^ 64) ^ (i + 1)
+limb-written t y i w h ew inv =
+    let next : (2 ^ 64) ^ (i + 1) ≡ 2 ^ (64 + 64 * i) = base-pow (i + 1) ∙ ap (λ (m : ℕ). 2 ^ m) (omega arith) in
+    let low : valueIn (2 ^ 64) (take i t) ≡ y % 2 ^ (64 * i) = inv ∙ ap (λ (m : ℕ). y % m) (base-pow i) in
+    rw (next, add-one i, value-take (2 ^ 64) i (set t i w), take-set-le i t i w (omega arith), getD-set-same t i w 0 h, mod-pow-add y 64 (64 * i), base-pow i)
+    (omega (arith, low, ap (λ (m : ℕ). 2 ^ (64 * i) * m) ew))
+
+-- two answers that meet `LowLimbs` agree, each with its limbs below 2^64
+pub low-limbs-unique : (room n : ℕ) (xs ys : List ℕ) → Below (2 ^ 64) xs → Below (2 ^ 64) ys → LowLimbs room n xs → LowLimbs room n ys → xs ≡ ys
+low-limbs-unique room n xs ys hx hy a b = value-unique (2 ^ 64) xs ys hx hy (a .size ∙ sym (b .size)) (a .value ∙ sym (b .value))

@@ -1,0 +1,96 @@
+// Bits of a run of limbs at any offset, and moves by bits.
+ghost use mathlib.Core.Path.{_≡_};
+ghost use Prim.Native.Nat.{ℕ, _+_, _*_, _/_, _%_, _^_, _<_};
+ghost use lib.Dec.{eqb};
+ghost use lib.ListN.{length};
+ghost use Rattle.limb.specs.Value.{valueOf};
+ghost use Rattle.shifts.specs.LowLimbs.{LowLimbs};
+use parts::limb_at;
+
+// The 64 bits from bit `bits` of limb `limbs` on.
+//
+//     limb limbs + 1      limb limbs
+//     [     high    ]  [     low     ]
+//             [  64 bits  ][  bits   ]
+//
+fn window_at(s: &[u64], limbs: usize, bits: usize) -> u64
+    requires { ⌜ (limbs + 1 < 2 ^ 64) × (bits < 64) ⌝ }
+    ensures { λ r. ⌜ r ≡ valueOf (now (s .entry)) / 2 ^ (64 * limbs + bits) % 2 ^ 64 ⌝ }
+{
+    let low = limb_at(s, limbs);
+    if bits == 0 {
+        low
+    } else {
+        let high = limb_at(s, limbs + 1);
+        (low >> bits) | (high << (64 - bits))
+    }
+}
+
+// The 64 bits from bit k on, 0 beyond the end.
+pub fn window(s: &[u64], k: usize) -> u64
+    ensures { λ r. ⌜ r ≡ valueOf (now (s .entry)) / 2 ^ k % 2 ^ 64 ⌝ }
+{
+    window_at(s, k / 64, k % 64)
+}
+
+// The run moved down by k bits, into the whole target.
+pub fn shift_down_into(target: &mut [u64], s: &[u64], k: usize)
+    ensures { λ r. ⌜ LowLimbs (length (now (target .entry))) (valueOf (now (s .entry)) / 2 ^ k) (now (target .exit)) ⌝ }
+{
+    let limbs = k / 64;
+    let bits = k % 64;
+    let mut i = 0;
+    while i < target.len() {
+        target[i] = window_at(s, limbs + i, bits);
+        i += 1;
+    }
+}
+
+// Limb i of the run moved up by k bits.
+fn raised_at(s: &[u64], i: usize, k: usize) -> u64
+    ensures { λ r. ⌜ r ≡ valueOf (now (s .entry)) * 2 ^ k / 2 ^ (64 * i) % 2 ^ 64 ⌝ }
+{
+    let limbs = k / 64;
+    let bits = k % 64;
+    if i < limbs {
+        return 0;
+    }
+    let from = i - limbs;
+    if bits == 0 {
+        return limb_at(s, from);
+    }
+    if from == 0 {
+        return limb_at(s, 0) << bits;
+    }
+    window_at(s, from - 1, 64 - bits)
+}
+
+// The run moved up by k bits, into the whole target: the bits below are 0, and what passes the target's top is dropped.
+pub fn shift_up_into(target: &mut [u64], s: &[u64], k: usize)
+    ensures { λ r. ⌜ LowLimbs (length (now (target .entry))) (valueOf (now (s .entry)) * 2 ^ k) (now (target .exit)) ⌝ }
+{
+    let mut i = 0;
+    while i < target.len() {
+        target[i] = raised_at(s, i, k);
+        i += 1;
+    }
+}
+
+// Whether the low k bits are all 0. Looks from the lowest limb up and stops at the first that is not 0.
+pub fn low_is_zero(s: &[u64], k: usize) -> bool
+    ensures { λ r. ⌜ r ≡ eqb (valueOf (now (s .entry)) % 2 ^ k) 0 ⌝ }
+{
+    let limbs = k / 64;
+    let mut i = 0;
+    while i < limbs {
+        if s.len() <= i {
+            return true;
+        }
+        if s[i] != 0 {
+            return false;
+        }
+        i += 1;
+    }
+    let cut = 1 << (k % 64);
+    limb_at(s, limbs) % cut == 0
+}
