@@ -1,5 +1,5 @@
 -- Two answers that meet a promise of add, subtract or re-round agree: number, ternary value, depth, counts, refusal, place and target. Assumes nothing.
-use mathlib.Core.Path.{_≡_, refl, sym, ap, _∙_, subst}
+use mathlib.Core.Path.{_≡_, refl, sym, ap, _∙_}
 use mathlib.Core.Bool.{Bool, true, false, _&&_}
 use mathlib.Core.List.{List}
 use Prim.Native.Nat.{ℕ}
@@ -15,7 +15,7 @@ use Rattle.checks.specs.declared.Refusal.{Refusal}
 use Rattle.checks.specs.Number.{operandOf}
 use Rattle.checks.specs.Check.{accepted, pairRefusal, singleRefusal}
 use Rattle.sums.specs.declared.report.Sum.{Sum}
-use Rattle.sums.specs.Summed.{sumOf, refusedSum, Reported, Refused, Summed, Rerounded}
+use Rattle.sums.specs.Summed.{sumOf, Reported, Refused, Summed, Rerounded}
 
 -- nothing is refused, or something is
 pub accepted-or : (c : Refusal) → Dec (c ≡ accepted)

@@ -17,7 +17,7 @@ use Rattle.checks.specs.Check.{accepted, pairRefusal, singleRefusal}
 use Rattle.checks.proofs.Accepted.{accepted-well-formed, accepted-single, pair-unrefused, single-unrefused}
 use Rattle.sums.specs.declared.report.Sum.{Sum}
 use Rattle.sums.specs.Exchanged.{exchangedSum}
-use Rattle.sums.specs.Ready.{Room}
+use Rattle.descent.specs.Ready.{Room}
 use Rattle.sums.specs.Summed.{refusedSum, Reported, Summed, Rerounded}
 use Rattle.sums.proofs.Exchanged.{reported-exchanged}
 

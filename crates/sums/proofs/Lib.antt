@@ -3,16 +3,6 @@ pub mod Turned
 pub mod Exchanged
 pub mod Zeros
 pub mod Entries
-pub mod GoingOn
-pub mod JudgingRange
-pub mod JudgingMixed
-pub mod JudgingRows
-pub mod GoingDown
-pub mod Finishing
 pub mod RegularParts
-pub mod RegularEnd
 pub mod RegularReport
 pub mod RegularLevel
-pub mod AtOnce
-pub mod Inside
-pub mod AtGlance

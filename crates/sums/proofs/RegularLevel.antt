@@ -1,5 +1,5 @@
 -- Two operands of one exponent: the first column in which they differ, and exact cancellation. Assumes nothing.
-use mathlib.Core.Path.{_≡_, refl, sym, ap, _∙_, subst}
+use mathlib.Core.Path.{_≡_, refl, sym, ap, _∙_}
 use mathlib.Core.List.{List}
 use Prim.Native.Nat.{ℕ, suc, _+_, _-_, _*_, _/_, _%_, _^_, _≤_, _<_}
 use native.Mathlib.Numerals.{add-one}
@@ -14,16 +14,15 @@ use lib.Dec.{ltb, leb, eqb}
 use lib.ListN.{replicate}
 use borrow.Author.Tests.{le-leb, lt-leb, ne-eqb}
 use Rattle.limb.specs.Value.{Below}
-use Rattle.numbers.specs.Limits.{leastPrecision, mostPrecision, limbsFor}
+use Rattle.numbers.specs.Limits.{mostPrecision, limbsFor}
 use Rattle.numbers.specs.Operand.{Operand, WellFormed}
 use Rattle.numbers.proofs.Limits.{two-digits, limbs-hold, limbs-fewest}
 use Rattle.rounding.proofs.Order.{le-or-lt}
 use Rattle.rounding.specs.Mode.{Mode, modeOf}
-use Rattle.rounding.specs.Answer.{Answer, zeroOf}
+use Rattle.rounding.specs.Answer.{zeroOf}
 use Rattle.rounding.specs.Sum.{add, zeroSign}
-use Rattle.depth.specs.Columns.{topExponent, limbsUsed}
-use Rattle.depth.specs.Bound.{deepest}
-use Rattle.depth.specs.Depth.{plus, result, Depth}
+use Rattle.depth.specs.Columns.{topExponent}
+use Rattle.depth.specs.Depth.{plus, result}
 use Rattle.decide.specs.Decide.{decideAt}
 use Rattle.decide.proofs.Decision.{depth-decided}
 use Rattle.place.specs.Placed.{limbsAfter}
@@ -43,12 +42,12 @@ use Rattle.checks.specs.declared.Number.{Number}
 use Rattle.checks.specs.Number.{operandOf}
 use Rattle.sums.specs.declared.regular.Differ.{Differ}
 use Rattle.sums.specs.declared.regular.Differ.the-variants.{Never, First, Second}
-use Rattle.sums.specs.Course.{Course}
-use Rattle.sums.specs.Ready.{Room}
-use Rattle.sums.specs.Finishing.{Level, Differs, usedOf}
+use Rattle.descent.specs.Course.{Course}
+use Rattle.descent.specs.Ready.{Room}
+use Rattle.sums.specs.Level.{Level, Differs, usedOf}
 use Rattle.sums.specs.Summed.{sumOf, Reported}
-use Rattle.sums.proofs.Finishing.{room-pos}
-use Rattle.sums.proofs.RegularEnd.{deep-enough}
+use Rattle.ending.proofs.Finishing.{room-pos}
+use Rattle.ending.proofs.RegularEnd.{deep-enough}
 use Rattle.sums.proofs.RegularReport.{used-is}
 
 -- one column more

@@ -2,11 +2,10 @@
 use mathlib.Core.Path.{_≡_, refl, sym, ap, _∙_, subst}
 use mathlib.Core.Bool.{Bool, true, false, not, cond, Bool·beq, true≢false}
 use mathlib.Core.List.{List}
-use Prim.Native.Nat.{ℕ, suc, _+_, _-_, _*_, _/_, _^_, _≤_, _<_, min, max, zero-le}
+use Prim.Native.Nat.{ℕ, _-_, _^_, _≤_, max, zero-le}
 use native.Mathlib.Omega.{arith}
-use lib.Dec.{leb}
 use lib.ListN.{length}
-use Rattle.numbers.specs.Limits.{limbsFor, counted}
+use Rattle.numbers.specs.Limits.{counted}
 use Rattle.numbers.specs.Operand.{Operand, WellFormed, zeroLike}
 use Rattle.numbers.proofs.Digits.{zero-well-formed}
 use Rattle.rounding.specs.Mode.{Mode, modeOf, way}
@@ -17,18 +16,19 @@ use Rattle.depth.specs.Depth.{plus, result, Depth}
 use Rattle.checks.specs.declared.Number.{Number}
 use Rattle.checks.specs.Number.{operandOf}
 use Rattle.place.specs.declared.Placed.{Placed}
-use Rattle.place.specs.Placed.{placedOf, limbsAfter}
+use Rattle.place.specs.Placed.{placedOf}
 use Rattle.settle.specs.declared.rows.Pair.{Pair}
 use Rattle.settle.specs.declared.rows.Way.{Way}
 use Rattle.settle.specs.Ways.{wayIs}
-use Rattle.bridge.specs.Verdict.{pairOf, Ordered}
-use Rattle.sums.specs.declared.going.Walked.{Walked}
+use Rattle.bridge.specs.Verdict.{pairOf}
+use Rattle.descent.specs.declared.going.Walked.{Walked}
 use Rattle.sums.specs.declared.report.Sum.{Sum}
-use Rattle.sums.specs.Ready.{Room}
-use Rattle.sums.specs.Course.{Begun, Course, Stopped}
-use Rattle.sums.specs.Finishing.{Ending, Left, Signed, usedOf}
+use Rattle.descent.specs.Ready.{Room}
+use Rattle.descent.specs.Course.{Begun, Course, Stopped}
+use Rattle.ending.specs.Finishing.{Ending, Left, Signed}
+use Rattle.sums.specs.Level.{usedOf}
 use Rattle.sums.specs.Summed.{sumOf, refusedSum, Reported}
-use Rattle.sums.proofs.RegularEnd.{depth-told, signed-told, ending, not-deep}
+use Rattle.ending.proofs.RegularEnd.{depth-told, signed-told, ending, not-deep}
 
 sum-depth : (a : Answer) (p d u v : ℕ) → sumOf a p d u v .depth ≡ d
 unfolding sumOf refusedSum

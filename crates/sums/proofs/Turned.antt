@@ -1,8 +1,7 @@
 -- A difference is the sum with the second sign turned, in its answer, its depth, its counts and its refusals. Assumes nothing.
 use mathlib.Core.Path.{_≡_, refl, sym, ap, _∙_, subst}
-use mathlib.Core.Bool.{Bool, true, false, not, _&&_}
 use mathlib.Core.List.{List}
-use Prim.Native.Nat.{ℕ, _-_, _<_}
+use Prim.Native.Nat.{ℕ, _-_}
 use lib.ListN.{length}
 use Rattle.numbers.specs.Operand.{Operand, turned}
 use Rattle.rounding.specs.Mode.{Mode, modeOf}
@@ -10,11 +9,11 @@ use Rattle.rounding.specs.Answer.{Answer}
 use Rattle.rounding.specs.Sum.{subtract}
 use Rattle.depth.specs.Columns.{topExponent, limbsUsed}
 use Rattle.depth.specs.Depth.{plus, minus, result, Deciding, Depth}
-use Rattle.depth.proofs.Subtract.{addend, top-is, fixed-result, open-result}
+use Rattle.depth.proofs.Subtract.{addend, fixed-result, open-result}
 use Rattle.checks.specs.declared.Number.{Number}
 use Rattle.checks.specs.declared.Refusal.{Refusal}
 use Rattle.checks.specs.Number.{operandOf, turnedNumber}
-use Rattle.checks.specs.Check.{accepted, pairRefusal, exponentHolds, formHolds}
+use Rattle.checks.specs.Check.{pairRefusal, exponentHolds, formHolds}
 use Rattle.place.specs.Placed.{limbsAfter}
 use Rattle.sums.specs.declared.report.Sum.{Sum}
 use Rattle.sums.specs.Summed.{sumOf, Reported, Refused, Summed}

@@ -2,7 +2,7 @@
 use mathlib.Core.Path.{_≡_, refl, sym, ap, _∙_}
 use mathlib.Core.Bool.{Bool, true, false, _&&_, true≢false}
 use mathlib.Core.List.{List}
-use Prim.Native.Nat.{ℕ, _≤_, zero-le}
+use Prim.Native.Nat.{ℕ, zero-le}
 use lib.ListN.{length, replicate}
 use Rattle.numbers.specs.Limits.{limbsFor}
 use Rattle.numbers.specs.Operand.{Operand}
@@ -10,12 +10,12 @@ use Rattle.rounding.specs.Mode.{Mode, modeOf}
 use Rattle.rounding.specs.Answer.{Answer, zeroOf, answer}
 use Rattle.rounding.specs.Sum.{amount, share, zeroSign, sumAt, add}
 use Rattle.depth.specs.Columns.{topExponent, limbsUsed}
-use Rattle.depth.specs.Depth.{plus, result, Depth}
+use Rattle.depth.specs.Depth.{plus, result}
 use Rattle.checks.specs.declared.Number.{Number}
 use Rattle.checks.specs.Number.{operandOf}
 use Rattle.place.specs.Placed.{limbsAfter}
 use Rattle.sums.specs.declared.report.Sum.{Sum}
-use Rattle.sums.specs.Ready.{Room}
+use Rattle.descent.specs.Ready.{Room}
 use Rattle.sums.specs.Summed.{sumOf, Reported}
 
 module _ (o : Mode) (p : ℕ) (x y : Operand) (a : x .isZero ≡ true) (b : y .isZero ≡ true) where

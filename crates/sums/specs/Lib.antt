@@ -1,5 +1,3 @@
 pub mod Summed
 pub mod Exchanged
-pub mod Ready
-pub mod Course
-pub mod Finishing
+pub mod Level

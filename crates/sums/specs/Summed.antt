@@ -1,7 +1,6 @@
 -- What add, subtract and re-round answer, and what they leave in the target. Definitions only.
 use Prim.Native.Nat.{ℕ, _≤_}
 use mathlib.Core.Path.{_≡_}
-use mathlib.Core.Bool.{Bool, true, false}
 use mathlib.Core.List.{List}
 use lib.IntN.{pos}
 use lib.ListN.{length}
@@ -9,7 +8,7 @@ use Rattle.numbers.specs.Operand.{Operand, zeroLike}
 use Rattle.rounding.specs.Mode.{Mode, modeOf}
 use Rattle.rounding.specs.Answer.{Answer, zeroOf, number, tooLarge, tooSmall}
 use Rattle.depth.specs.Columns.{topExponent, limbsUsed}
-use Rattle.depth.specs.Depth.{Operation, plus, minus, result, Depth}
+use Rattle.depth.specs.Depth.{Operation, plus, result, Depth}
 use Rattle.depth.specs.Bound.{deepest}
 use Rattle.checks.specs.declared.Number.{Number}
 use Rattle.checks.specs.declared.Refusal.{Refusal}

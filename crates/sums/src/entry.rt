@@ -1,15 +1,15 @@
 // Add, subtract, re-round.
 ghost use mathlib.Core.Path.{_≡_};
-ghost use mathlib.Core.Bool.{true, false, _&&_};
+ghost use mathlib.Core.Bool.{true};
 ghost use Prim.Native.Nat.{ℕ, _≤_};
 ghost use mathlib.Core.List.{List};
 ghost use lib.ListN.{length};
-ghost use Rattle.numbers.specs.Operand.{Operand, WellFormed};
+ghost use Rattle.numbers.specs.Operand.{WellFormed};
 ghost use Rattle.rounding.specs.Mode.{modeOf};
 ghost use Rattle.depth.specs.Depth.{plus, minus};
 ghost use Rattle.checks.specs.Number.{operandOf};
 ghost use Rattle.sums.specs.Summed.{Reported, Summed, Rerounded};
-ghost use Rattle.sums.specs.Ready.{Room};
+ghost use Rattle.descent.specs.Ready.{Room};
 use crate::regular::both;
 use crate::regular::single;
 use crate::report::Sum;

@@ -1,8 +1,5 @@
 // Sums and differences of two numbers, rounded to a target precision, with the columns that fixed the answer.
 mod report; // report.rt: what a sum reports
-mod prompt; // prompt.rt: the columns that fill the target, read at once
-mod going; // going.rt: the walk down the columns
-mod front; // front.rt: the short way of a sum
 mod regular; // regular.rt: sums of regular numbers
 mod entry; // entry.rt: add, subtract, re-round
 

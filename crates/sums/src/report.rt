@@ -1,7 +1,5 @@
 // What a sum reports.
 ghost use mathlib.Core.Path.{_≡_};
-ghost use lib.ListN.{length, replicate};
-ghost use Rattle.checks.specs.Check.{accepted};
 ghost use Rattle.rounding.specs.Mode.{modeOf};
 ghost use Rattle.rounding.specs.Answer.{zeroOf};
 ghost use Rattle.rounding.specs.Sum.{zeroSign};

@@ -2,7 +2,7 @@
 use mathlib.Core.Path.{refl, subst}
 use Prim.Native.Nat.{ℕ}
 use Rattle.checks.specs.Number.{operandOf}
-use Rattle.sums.specs.Course.{Course}
+use Rattle.descent.specs.Course.{Course}
 use borrow.Author.Needs.{needs}
 use Rattle.sums.proofs.regular.ordered_from.Statement.{statement}
 use Rattle.sums.proofs.regular.ordered_from.Tie as tie

@@ -1,0 +1,3 @@
+pub mod Finishing
+pub mod Parts
+pub mod RegularEnd
