@@ -5,3 +5,4 @@ pub mod Tables
 pub mod Form
 pub mod Passing
 pub mod Accepted
+pub mod Examples
