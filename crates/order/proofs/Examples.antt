@@ -36,10 +36,13 @@ order-is-difference x y = go (compare above below) (cmp above below)
   where
     s : ℕ
     s = scale x y
+
     above : ℕ
     above = share false s x + share true s y
+
     below : ℕ
     below = share true s x + share false s y
+
     go : (o : Ordering) → Cmp o above below → Differ o x y
     go Ordering·lt h = (below - above, omega arith, rw (turned-share true s y, turned-share false s y) (omega arith))
     go Ordering·eq h = rw (turned-share true s y, turned-share false s y) (omega arith)

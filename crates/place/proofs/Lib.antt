@@ -7,3 +7,4 @@ pub mod Reach
 pub mod Rules
 pub mod Unit
 pub mod OneLimb
+pub mod Examples
