@@ -3,3 +3,4 @@ pub mod Numbers
 pub mod Orders
 pub mod Formed
 pub mod Groups
+pub mod Examples

@@ -33,7 +33,7 @@ refuses rule l = (record { rule = rule; exponent = 0; ternary = pos 0 }, l)
 abbrev below : ℕ → ℕ → ℕ
 below n e = e - 64 * (n + 1)
 
--- P5, P6 and P7, and what a sign, a guard and `more` change; 65 digits in two limbs
+-- P5, P6 and P7, and what a sign, a guard and `more` change; 65 digits in two limbs; a rest just below a half
 pub marked-runs :
     told 0 2 false (below 1 bias) false (0b101 * 2 ^ 61 ∷ []) 0 false
     ∷ told 0 2 false (below 1 bias) false (0b101 * 2 ^ 61 ∷ []) 0 true
@@ -46,6 +46,7 @@ pub marked-runs :
     ∷ told 0 65 false (below 2 bias) false (2 ^ 62 ∷ 2 ^ 63 ∷ []) 0 false
     ∷ told 0 65 false (below 2 bias) false (2 ^ 62 ∷ 2 ^ 63 ∷ []) 1 false
     ∷ told 0 65 false (below 2 bias) true (0 ∷ 0 ∷ []) 0 false
+    ∷ told 0 64 false (below 1 bias) false ((2 ^ 63 + 1) ∷ []) (2 ^ 63 - 1) true
     ∷ []
     ≡ gives bias (negsuc 0) (2 ^ 63 ∷ [])
     ∷ gives bias (pos 1) (0b11 * 2 ^ 62 ∷ [])
@@ -58,6 +59,7 @@ pub marked-runs :
     ∷ gives bias (negsuc 0) (0 ∷ 2 ^ 63 ∷ [])
     ∷ gives bias (pos 1) (2 ^ 63 ∷ 2 ^ 63 ∷ [])
     ∷ gives (bias + 1) (pos 0) (0 ∷ 2 ^ 63 ∷ [])
+    ∷ gives bias (negsuc 0) ((2 ^ 63 + 1) ∷ [])
     ∷ []
 unfolding roundedPlaced roundedLimbs runRule runAnswer runNumber placedOf limbsAfter ternaryOf modeOf way rounded ranged digits signed chosen onGrid unit quotient size bit valueIn limbsOf limbsFor spareBits bias leastPrecision mostPrecision leastExponent mostExponent
 marked-runs = refl

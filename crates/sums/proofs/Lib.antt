@@ -16,3 +16,4 @@ pub mod RegularLevel
 pub mod AtOnce
 pub mod Inside
 pub mod AtGlance
+pub mod Examples
