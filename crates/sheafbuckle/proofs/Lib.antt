@@ -2,3 +2,4 @@
 mod Told
 mod Trim
 pub mod Agree
+pub mod Examples
