@@ -4,3 +4,4 @@ pub mod Tables
 pub mod Form
 pub mod Passing
 pub mod Accepted
+pub mod Examples

@@ -3,3 +3,4 @@ pub mod Worth
 pub mod Between
 pub mod RoundTrip
 pub mod Unique
+pub mod Examples

@@ -1,3 +1,4 @@
 pub mod Numbers
 pub mod Formed
 pub mod Groups
+pub mod Examples

@@ -8,3 +8,4 @@ pub mod RoundTrip
 pub mod OneLine
 pub mod Longest
 pub mod Unique
+pub mod Examples

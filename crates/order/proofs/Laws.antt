@@ -100,7 +100,7 @@ order-reversed x y = go (x .isZero) (y .isZero) refl refl
     go true false z w = same-unit x y (scale-swapped x y (λ e f. true≢false (sym f ∙ w)))
     go false b z w = same-unit x y (scale-swapped x y (λ e f. true≢false (sym e ∙ z)))
 
-turned-share : (b : Bool) (s : ℕ) (x : Operand) → share b s (turned x) ≡ share (not b) s x
+pub turned-share : (b : Bool) (s : ℕ) (x : Operand) → share b s (turned x) ≡ share (not b) s x
 unfolding share amount turned mantissa lastWeight
 turned-share b s x = ap (λ (t : Bool). cond t (amount s x) 0) (other (x .negative) b)
   where

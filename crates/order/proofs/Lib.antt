@@ -2,3 +2,4 @@ pub mod Head
 pub mod Sizes
 pub mod Cases
 pub mod Laws
+pub mod Examples

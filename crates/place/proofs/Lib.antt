@@ -3,3 +3,4 @@ pub mod Placing
 pub mod Rules
 pub mod Finer
 pub mod Normalized
+pub mod Examples

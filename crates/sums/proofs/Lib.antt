@@ -6,3 +6,4 @@ pub mod Entries
 pub mod RegularParts
 pub mod RegularReport
 pub mod RegularLevel
+pub mod Examples

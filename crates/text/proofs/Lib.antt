@@ -1,2 +1,4 @@
 pub mod Digits
 pub mod Numeral
+pub mod Bytes
+pub mod Examples
