@@ -5,3 +5,7 @@
 //     second        [ v             ] ..      gap digits below
 //     sum    c [ limb               ]         p digits, and below them the rest
 mod column; // column.rt: the first column as a run to be rounded
+mod seeing; // seeing.rt: the run rounded
+
+pub use seeing::Seen;
+pub use seeing::see;
