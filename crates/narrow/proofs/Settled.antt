@@ -13,7 +13,7 @@ use lib.Ieee.{size}
 use lib.Pow.{pow-add, pow-mono}
 use Rattle.limb.specs.Value.{valueIn}
 use Rattle.limb.specs.Carry.{bit}
-use Rattle.limb.proofs.Carry.{bit-byte, byte-le}
+use Rattle.limb.proofs.Carry.{bit-byte}
 use Rattle.numbers.specs.Limits.{bias, mostPrecision, mostExponent}
 use Rattle.numbers.proofs.Limits.{two-digits}
 use Rattle.numbers.specs.Operand.{Operand}
@@ -40,9 +40,6 @@ use Rattle.narrow.proofs.Rows.{SumCase, DifferenceCase, hole-row, sum-c
 pub sums-fit : (p : ℕ) (pair : Pair) (u : ℕ) → Facing p pair u → pair .gap + pair .second < 2 ^ 64
 unfolding mostPrecision mostExponent bias
 sums-fit p pair u f = omega (arith, f .gap, f .high, f .second-few)
-
-pub drop-fits : (p : ℕ) (pair : Pair) (u : ℕ) → Facing p pair u → (carry : Bool) → (0 < 64 + boolByte carry - p) × (64 + boolByte carry - p ≤ 64)
-drop-fits p pair u f carry = let h = byte-le carry in (omega (arith, f .most), omega (arith, f .least, two-digits))
 
 -- a limb that begins a column lower has no digit there
 pub part-none : (v gap : ℕ) → v < 2 ^ 64 → 64 ≤ gap → v / 2 ^ gap ≡ 0

@@ -2,7 +2,8 @@
 use Prim.Native.Nat.{_^_, _<_}
 use native.Mathlib.Omega.{arith}
 use Rattle.limb.proofs.Carry.{byte-le}
-use Rattle.narrow.proofs.Settled.{sums-fit, drop-fits, sum-settles}
+use Rattle.numbers.proofs.Limits.{two-digits}
+use Rattle.narrow.proofs.Settled.{sums-fit, sum-settles}
 use borrow.Author.Needs.{needs}
 use Rattle.narrow.proofs.column.sum_column.Statement.{statement}
 use Rattle.narrow.proofs.column.sum_column.Tie as tie
@@ -26,7 +27,10 @@ is-hole-requires : tie.Need-is-hole-requires
 is-hole-requires c κs = search needs
 
 lies-inside-requires : tie.Need-lies-inside-requires
-lies-inside-requires c κs = drop-fits _ _ _ (c .before .before .before .before .pre .0) (c .before .before .before .add-carry .result .carry)
+lies-inside-requires c κs =
+    let f = c .before .before .before .before .pre .0 in
+    let h = byte-le (c .before .before .before .add-carry .result .carry) in
+    (omega (arith, f .most), omega (arith, f .least, two-digits))
 
 returns : tie.Need-returns
 returns c =
