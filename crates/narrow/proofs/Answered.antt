@@ -1,19 +1,17 @@
 -- What the first column says on each row of the table, as a number two columns long. Assumes nothing.
-use mathlib.Core.Path.{_≡_, refl, sym, ap, _∙_, subst}
-use mathlib.Core.Bool.{Bool, true, false, not, cond, _&&_, _||_}
+use mathlib.Core.Path.{_≡_, refl, sym, ap, _∙_}
+use mathlib.Core.Bool.{Bool, true, false, not, cond, _&&_, true≢false}
 use Prim.Native.Nat.{ℕ, _+_, _-_, _*_, _^_, _≤_, _<_}
 use native.Mathlib.Omega.{arith}
 use borrow.Author.Tests.{lt-ltb, ne-eqb}
-use lib.Dec.{ltb, eqb}
-use lib.Ieee.{size}
+use lib.Dec.{eqb}
 use Rattle.limb.specs.Carry.{bit}
 use Rattle.numbers.specs.Operand.{Operand, mantissa}
 use Rattle.rounding.specs.Mode.{Mode, Way, near, under, over, way}
 use Rattle.rounding.specs.Answer.{rounded}
 use Rattle.rounding.specs.Sum.{add}
-use Rattle.depth.specs.Bound.{deepest}
 use Rattle.depth.proofs.Bounds.{deepest-today}
-use Rattle.decide.specs.Table.{hole?, odd?}
+use Rattle.decide.specs.Table.{hole?}
 use Rattle.decide.specs.Decide.{decideAt}
 use Rattle.decide.proofs.Settled.{Enough}
 use Rattle.settle.specs.Rows.{rowOf}
@@ -76,7 +74,7 @@ module _ (p : ℕ) (P : 0 < p) (o : Mode) (x y : Operand) (d : Ordered x y) (lea
   unfolding verdict settledBy moreOf
   exact-says is = (
     decision o p P x y 1 d one lead ∙ ap (verdict o p x y 1) is,
-    deeper false (λ e. absurd (mathlib.Core.Bool.true≢false (sym e))) (row-sum o p P x y 1 d one lead Exact is (omega (arith, room)) refl),
+    deeper false (λ e. absurd (true≢false (sym e))) (row-sum o p P x y 1 d one lead Exact is (omega (arith, room)) refl),
   )
 
   module _ (inside : Inside p D) where

@@ -1,5 +1,5 @@
 -- The first column of two operands comes from their top limbs, and the run that it fixes is rounded to their sum. Assumes nothing.
-use mathlib.Core.Path.{_≡_, refl, sym, ap, _∙_, subst}
+use mathlib.Core.Path.{_≡_, refl, sym, ap, _∙_}
 use mathlib.Core.Bool.{Bool, true, false, _&&_, _||_}
 use mathlib.Core.List.{List, [], _∷_}
 use Prim.Native.Nat.{ℕ, suc, _+_, _-_, _*_, _/_, _^_, _≤_, _<_}
@@ -9,13 +9,13 @@ use borrow.Author.Tests.{lt-ltb, le-leb, eq-eqb}
 use lib.Dec.{ltb, leb, eqb}
 use lib.ListN.{length, getD, drop, drop-of-length-le}
 use lib.Pow.{pow-add}
-use Rattle.limb.specs.Value.{valueIn, valueOf, Below}
+use Rattle.limb.specs.Value.{valueOf, Below}
 use Rattle.limb.proofs.Value.{value-nil, value-drop, value-shr, base-pow}
 use Rattle.numbers.specs.Limits.{bias, leastPrecision, mostPrecision, leastExponent, mostExponent, limbsFor}
 use Rattle.numbers.specs.Operand.{Operand, WellFormed}
 use Rattle.numbers.proofs.Limits.{two-digits, limbs-hold}
 use Rattle.rounding.specs.Mode.{modeOf, way}
-use Rattle.rounding.specs.Answer.{Answer, rounded}
+use Rattle.rounding.specs.Answer.{rounded}
 use Rattle.rounding.specs.Sum.{add}
 use Rattle.decide.specs.Decide.{decideAt}
 use Rattle.place.specs.declared.Placed.{Placed}
@@ -26,12 +26,11 @@ use Rattle.place.proofs.Rules.{rule-none}
 use Rattle.walk.specs.Column.{readTo}
 use Rattle.leap.proofs.Leaping.{read-down}
 use Rattle.settle.specs.declared.rows.Pair.{Pair}
-use Rattle.bridge.specs.Verdict.{pairOf, Ordered, readSum}
+use Rattle.bridge.specs.Verdict.{pairOf, readSum}
 use Rattle.bridge.proofs.Told.{pair-top}
-use Rattle.ending.specs.Finishing.{Left}
 use Rattle.narrow.specs.declared.column.Column.{Column}
 use Rattle.narrow.specs.Sighting.{topLimb, Held, Facing, Told}
-use Rattle.narrow.specs.Column.{Settles, firstRead, Found}
+use Rattle.narrow.specs.Column.{firstRead, Found}
 use Rattle.narrow.proofs.Settled.{read-sum, read-difference}
 
 -- ---- the top limb is the first column
