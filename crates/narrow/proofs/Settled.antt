@@ -78,7 +78,7 @@ All p pair D N =
 
 plain : (p : ℕ) (pair : Pair) (D : ℕ) (fixed carry : Bool) (limb : ℕ) (more : Bool) → limb + 2 ^ 64 * bit carry ≡ D → 0 < D → All p pair D (2 * (D * 2 ^ 64) + bit more)
     → Settles p pair D (record { fixed = fixed; carry = carry; limb = limb; guard = 0; more = more })
-plain p pair D fixed carry limb more e pos h = record { led = led carry e; clear = λ f. refl; answers = rw (run-plain carry limb more D e) h }
+plain p pair D fixed carry limb more e pos h = record { led = led carry e; answers = rw (run-plain carry limb more D e) h }
   where
     led : (c : Bool) → limb + 2 ^ 64 * bit c ≡ D → c ≡ false → 0 < limb
     led true e f = absurd (true≢false f)
@@ -195,7 +195,7 @@ module _ (p : ℕ) (pair : Pair) (u : ℕ) (f : Facing p pair u) where
         all o x y d reg is lead e = rw (← e) (hole-difference-says p P o x y d lead (f .most) (here pair x y is (hole-row pair (f .second-some) hole)) (ap (λ (s : Pair). s .same) (sym is) ∙ same))
 
         settles : Settles p pair u (record { fixed = true; carry = false; limb = u - 1; guard = 18446744073709551615; more = true })
-        settles = record { led = λ e. omega (arith, f .led); clear = λ e. absurd (true≢false (sym e)); answers = rw (run-less u (omega (arith, f .led))) all }
+        settles = record { led = λ e. omega (arith, f .led); answers = rw (run-less u (omega (arith, f .led))) all }
 
     pub difference-found : (v low : ℕ) → low ≡ v / 2 ^ pair .gap → low < u → (r : Column) → Settles p pair (u - low) r → Found p pair u v r
     difference-found v low e lt r h = record { ahead = λ g. rw (← e) lt; settles = subst (λ (n : ℕ). Settles p pair n r) (sym (read-difference pair u v same ∙ ap (λ (n : ℕ). u - n) (sym e))) h }

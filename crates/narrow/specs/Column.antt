@@ -30,7 +30,6 @@ hasMore s =
 -- the first column of two operands comes to D; it fixes the answer, and that is the answer of the run
 pub record Settles (p : ℕ) (pair : Pair) (D : ℕ) (r : Column) : Type 0 where
   pub led : r .carry ≡ false → 0 < r .limb
-  pub clear : r .carry ≡ true → r .guard ≡ 0
   pub answers : (o : Mode) (x y : Operand) → Ordered x y → y .isZero ≡ false → pair ≡ pairOf x y → Leads x y 1 → readSum x y 1 ≡ D
       → (decideAt o p x y 1 ≡ true)
       × (add o p x y ≡ rounded (way o (x .negative)) p (x .exponent - 128 - 1) (x .negative) (runNumber (r .carry) (r .limb ∷ []) (r .guard) (r .more)))

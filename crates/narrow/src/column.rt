@@ -31,7 +31,7 @@ fn is_whole(pair: Pair) -> bool
     (pair.first <= 64) & (pair.gap + pair.second <= 64)
 }
 
-// Whether one column has all of the first operand, and nothing of the second.
+// Whether one column has all of the first operand, and nothing of the second: a hole.
 fn is_hole(pair: Pair) -> bool
     ensures { λ r. ⌜ r ≡ isHole pair ⌝ }
 {
@@ -78,7 +78,7 @@ fn is_inside(p: u64, limb: u64) -> bool
     }
 }
 
-// The first operand's limb less the second's part, where the second is no hole below the first.
+// The first operand's limb less the second's part, outside a hole.
 fn difference_column(p: u64, pair: Pair, u: u64, low: u64) -> Column
     requires { ⌜ Facing p pair u × (pair .same ≡ false) × (isHole pair ≡ false) × (low < u) ⌝ }
     ensures { λ r. ⌜ (r .fixed ≡ true → Settles p pair (u - low) r) ⌝ }
@@ -93,7 +93,7 @@ fn difference_column(p: u64, pair: Pair, u: u64, low: u64) -> Column
     }
 }
 
-// The first operand's limb less a little.
+// The first operand's limb less a little, in a hole.
 fn lessened(u: u64) -> Column
     requires { ⌜ 0 < u ⌝ }
     ensures { λ r. ⌜ r ≡ record { fixed = true; carry = false; limb = u - 1; guard = 18446744073709551615; more = true } ⌝ }
