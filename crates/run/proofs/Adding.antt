@@ -3,16 +3,17 @@ use mathlib.Core.Path.{_≡_, refl, sym, ap, _∙_}
 use mathlib.Core.Bool.{Bool}
 use mathlib.Core.List.{List, [], _++_}
 use Prim.Native.Nat.{ℕ, _+_, _-_, _*_, _^_, _≤_, _<_}
-use native.Mathlib.Nat.{pow-zero, add-assoc, add-sub-of-le}
+use native.Mathlib.Nat.{pow-zero, pow-succ', add-assoc, add-sub-of-le}
+use native.Mathlib.Numerals.{add-one}
 use native.Mathlib.Omega.{arith}
-use lib.ListN.{length, take, drop, take-append-drop, length-drop}
+use lib.ListN.{length, take, drop, set, getD, take-append-drop, length-set, length-drop}
 use lib.Pow.{pow-add}
-use lib.Seq.{getD-drop}
+use lib.Seq.{getD-drop, take-add, length-take-le}
 use Rattle.limb.specs.Carry.{bit}
 use Rattle.limb.specs.Value.{valueIn, Below}
 use Rattle.limb.proofs.Carry.{sum-unique, difference-unique}
-use Rattle.limb.proofs.Value.{value-nil, value-split, value-lt, value-unique}
-use Rattle.run.specs.Sum.{Added, Subtracted, Reversed, AddedAt, SubtractedAt}
+use Rattle.limb.proofs.Value.{value-nil, value-take, value-set, value-append, value-split, value-lt, value-unique}
+use Rattle.run.specs.Sum.{LimbAdded, Added, Subtracted, Reversed, AddedAt, SubtractedAt}
 
 -- before any limb of the operand is added, the carry k stands at the bottom
 pub none-added : (B : ℕ) (t o : List ℕ) (k : ℕ) → valueIn B t + B ^ 0 * k ≡ valueIn B t + valueIn B (take 0 o) + k
@@ -24,6 +25,33 @@ nothing-added o carry = record { same-length = refl; value = none-added (2 ^ 64)
 
 pub nothing-subtracted : (o : List ℕ) (borrow : Bool) → Subtracted [] o borrow [] borrow
 nothing-subtracted o borrow = record { same-length = refl; value = sym (none-added (2 ^ 64) [] o (bit borrow)) }
+
+-- one turn of a sum: limb i of t becomes s with the carry out n, which are worth that limb, the operand's limb x and the carry in k
+pub limb-added : (B : ℕ) (t o : List ℕ) (i k all first x s n : ℕ) → i < length t → x ≡ getD o i 0 → s + B * n ≡ getD t i 0 + x + k
+    → valueIn B t + B ^ i * k ≡ all + valueIn B (take i o) + first
+    → valueIn B (set t i s) + B ^ (i + 1) * n ≡ all + valueIn B (take (i + 1) o) + first
+limb-added B t o i k all first x s n h ex e inv =
+    rw (add-one i, pow-succ' B i, value-take B i o)
+    (omega (arith, ap (λ (m : ℕ). B ^ i * m) e, ap (λ (m : ℕ). B ^ i * m) ex, value-set B t i s h))
+
+-- the same of a limb that `LimbAdded` speaks of
+added-by : (t a o : List ℕ) (i j : ℕ) (k n : Bool) (m all first : ℕ) → j ≡ i + 1 → i < m → LimbAdded i t o k a n
+    → (length t ≡ m) × (valueIn (2 ^ 64) t + (2 ^ 64) ^ i * bit k ≡ all + valueIn (2 ^ 64) (take i o) + first)
+    → (length a ≡ m) × (valueIn (2 ^ 64) a + (2 ^ 64) ^ j * bit n ≡ all + valueIn (2 ^ 64) (take j o) + first)
+added-by t a o i j k n m all first ej h s inv =
+    rw (ej, s .others)
+    (length-set t i (getD a i 0) ∙ inv .0, limb-added (2 ^ 64) t o i (bit k) all first (getD o i 0) (getD a i 0) (bit n) (omega arith) refl (s .limb) (inv .1))
+
+-- four turns
+pub four-added : (t a b d e o : List ℕ) (i : ℕ) (k p q r n : Bool) (m all first : ℕ) → i + 3 < m
+    → LimbAdded i t o k a p → LimbAdded (i + 1) a o p b q → LimbAdded (i + 2) b o q d r → LimbAdded (i + 3) d o r e n
+    → (length t ≡ m) × (valueIn (2 ^ 64) t + (2 ^ 64) ^ i * bit k ≡ all + valueIn (2 ^ 64) (take i o) + first)
+    → (length e ≡ m) × (valueIn (2 ^ 64) e + (2 ^ 64) ^ (i + 4) * bit n ≡ all + valueIn (2 ^ 64) (take (i + 4) o) + first)
+four-added t a b d e o i k p q r n m all first h sa sb sd se inv =
+    added-by d e o (i + 3) (i + 4) r n m all first (omega arith) (omega arith) se
+    (added-by b d o (i + 2) (i + 3) q r m all first (omega arith) (omega arith) sd
+    (added-by a b o (i + 1) (i + 2) p q m all first (omega arith) (omega arith) sb
+    (added-by t a o i (i + 1) k p m all first refl (omega arith) sa inv)))
 
 -- two answers that meet the promise of a sum, or of a difference either way, are one
 module _ (xs ys : List ℕ) (p q : Bool) (hx : Below (2 ^ 64) xs) (hy : Below (2 ^ 64) ys) (before operand : List ℕ) (carry : Bool) where
@@ -98,3 +126,23 @@ module _ (start : ℕ) (before operand : List ℕ) (carry : Bool) (after : List 
   subtracted-at-value a =
       raised-difference (B ^ start) (B ^ (length before - start)) _ _ _ _ (bit carry) (bit out) _ _ _ (value-split B start before) (part-split (a .below)) top-split
       (rw length-drop at (a .part .value))
+
+-- the lowest n limbs of the operand: those below limb i, and the others
+limbs-from : (B : ℕ) (o : List ℕ) (i n : ℕ) → i ≤ n → n ≤ length o → valueIn B (take n o) ≡ valueIn B (take i o) + B ^ i * valueIn B (take (n - i) (drop i o))
+limbs-from B o i n hi hn =
+    ap (λ (m : ℕ). valueIn B (take m o)) (sym (add-sub-of-le hi)) ∙ ap (valueIn B) (take-add i (n - i) o) ∙ value-append B (take i o) (take (n - i) (drop i o))
+    ∙ ap (λ (m : ℕ). valueIn B (take i o) + B ^ m * valueIn B (take (n - i) (drop i o))) (length-take-le i o (omega arith))
+
+sum-joined : (P all low high first k t top : ℕ) → t + P * k ≡ all + low + first → top ≡ t + P * (high + k) → top ≡ all + (low + P * high) + first
+sum-joined P all low high first k t top inv e = omega (arith, inv, e)
+
+-- a target that holds the sum of the limbs below limb i, and its part from there on, into which the others have been added
+pub rest-added : (i : ℕ) (t₀ t o : List ℕ) (first k : Bool) (after : List ℕ) (out : Bool) → i ≤ length t₀ → length t₀ ≤ length o → length t ≡ length t₀
+    → length after ≡ length t → valueIn (2 ^ 64) t + (2 ^ 64) ^ i * bit k ≡ valueIn (2 ^ 64) t₀ + valueIn (2 ^ 64) (take i o) + bit first
+    → AddedAt i t (drop i o) k after out → Added t₀ o first after out
+rest-added i t₀ t o first k after out hi ho et ea inv a = record {
+  same-length = ea ∙ et;
+  value =
+      rw (limbs-from (2 ^ 64) o i (length t₀) hi ho)
+      (sum-joined ((2 ^ 64) ^ i) _ _ _ (bit first) (bit k) (valueIn (2 ^ 64) t) _ inv (rw et at (added-at-value i t (drop i o) k after out (omega arith) a)));
+}
