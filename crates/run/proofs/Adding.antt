@@ -128,7 +128,7 @@ module _ (start : ℕ) (before operand : List ℕ) (carry : Bool) (after : List 
       (rw length-drop at (a .part .value))
 
 -- the lowest n limbs of the operand: those below limb i, and the others
-limbs-from : (B : ℕ) (o : List ℕ) (i n : ℕ) → i ≤ n → n ≤ length o → valueIn B (take n o) ≡ valueIn B (take i o) + B ^ i * valueIn B (take (n - i) (drop i o))
+pub limbs-from : (B : ℕ) (o : List ℕ) (i n : ℕ) → i ≤ n → n ≤ length o → valueIn B (take n o) ≡ valueIn B (take i o) + B ^ i * valueIn B (take (n - i) (drop i o))
 limbs-from B o i n hi hn =
     ap (λ (m : ℕ). valueIn B (take m o)) (sym (add-sub-of-le hi)) ∙ ap (valueIn B) (take-add i (n - i) o) ∙ value-append B (take i o) (take (n - i) (drop i o))
     ∙ ap (λ (m : ℕ). valueIn B (take i o) + B ^ m * valueIn B (take (n - i) (drop i o))) (length-take-le i o (omega arith))

@@ -24,6 +24,11 @@ pub record Subtracted (before operand : List ℕ) (borrow : Bool) (after : List 
   pub same-length : length after ≡ length before
   pub value : valueOf after + valueOf (take (length before) operand) + bit borrow ≡ valueOf before + (2 ^ 64) ^ length before * bit out
 
+-- limb i of the operand less limb i of before and the borrow is limb i of after, with the borrow out on top; the other limbs stay
+pub record LimbReversed (i : ℕ) (before operand : List ℕ) (borrow : Bool) (after : List ℕ) (out : Bool) : Type 0 where
+  pub others : after ≡ set before i (getD after i 0)
+  pub limb : getD after i 0 + getD before i 0 + bit borrow ≡ getD operand i 0 + 2 ^ 64 * bit out
+
 -- operand - before - borrow is after, with the borrow out on top of the operand
 pub record Reversed (before operand : List ℕ) (borrow : Bool) (after : List ℕ) (out : Bool) : Type 0 where
   pub same-length : length after ≡ length before
