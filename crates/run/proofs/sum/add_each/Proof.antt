@@ -1,26 +1,22 @@
 -- `run::add_each` is right since after i turns the target, with the carry on top of its lowest i limbs, is worth what it was, the
 -- operand's lowest i limbs and the carry in. Assumes nothing.
 use mathlib.Core.Path.{_≡_}
-use Prim.Native.Nat.{ℕ, _+_, _-_, _*_, _^_, _≤_}
+use Prim.Native.Nat.{_-_, _≤_}
 use native.Mathlib.Omega.{arith}
-use lib.ListN.{length, take, length-set}
-use Rattle.limb.specs.Carry.{bit}
-use Rattle.limb.specs.Value.{valueIn}
-use Rattle.run.proofs.Adding.{none-added, limb-added}
+use lib.ListN.{length, length-set}
+use Rattle.run.proofs.Adding.{AddedTo, none-added-to, limb-added, all-added}
 use borrow.Author.Needs.{needs}
 use Rattle.run.proofs.sum.add_each.Statement.{statement}
 use Rattle.run.proofs.sum.add_each.Tie as tie
 
 abbrev Inv-loop : tie.InvT-loop
-Inv-loop target₀ operand carry up₀ i₀ target up i =
-    (i ≤ length target₀) × (length target ≡ length target₀)
-    × (valueIn (2 ^ 64) target + (2 ^ 64) ^ i * bit up ≡ valueIn (2 ^ 64) target₀ + valueIn (2 ^ 64) (take i operand) + bit carry)
+Inv-loop target₀ operand carry up₀ i₀ target up i = (i ≤ length target₀) × AddedTo i target₀ operand carry target up
 
 abbrev μ-loop : tie.MeasureT-loop
 μ-loop target₀ operand carry up₀ i₀ target up i = length target - i
 
 loop-holds : tie.Need-loop-holds Inv-loop μ-loop
-loop-holds c = (search needs, search needs, none-added (2 ^ 64) _ (c .before .before .args .operand .now) _)
+loop-holds c = (search needs, none-added-to _ _ _)
 
 mul-add-carry : tie.Need-mul-add-carry Inv-loop μ-loop
 mul-add-carry c = search needs
@@ -49,11 +45,8 @@ loop-less c = simp length-set (omega arith)
 loop-again : tie.Need-loop-again Inv-loop μ-loop
 loop-again c = (
   search needs,
-  simp length-set (omega arith),
   let l = c .before .before .before .before .loop in
-      let o = c .before .before .before .before .before .before .before .args .operand .now in
-      limb-added (2 ^ 64) (l .target) o (l .i) (bit (l .up)) _ _ _ _ _ (omega arith) (c .before .limb-at .ensures)
-      (c .add-carry .ensures) (l .inv .2),
+      limb-added _ _ _ (l .target) (l .up) (l .i) _ _ _ (omega arith) (c .before .limb-at .ensures) (c .add-carry .ensures) (l .inv .1),
 )
 
 same-length : tie.Need-same-length Inv-loop μ-loop
@@ -62,8 +55,7 @@ same-length c = search needs
 returns : tie.Need-returns Inv-loop μ-loop
 returns c =
     let l = c .before .loop in
-    let e : l .i ≡ length (c .before .before .before .before .args .target .now) = omega arith in
-    record { same-length = search needs; value = rw e at (l .inv .2) }
+    all-added _ _ _ _ _ (l .i) (omega arith) (l .inv .1)
 
 pub add-each-spec : {M : Type 1} → statement M
 add-each-spec =

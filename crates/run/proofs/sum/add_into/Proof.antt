@@ -1,23 +1,17 @@
 -- `run::add_into` is right since after i limbs the target, with the carry on top of its lowest i limbs, is worth what it was, the
 -- operand's lowest i limbs and the carry in, and the part from limb i on is left to `add_each`. Assumes nothing.
 use mathlib.Core.Path.{_≡_}
-use mathlib.Core.List.{List}
-use Prim.Native.Nat.{ℕ, _+_, _-_, _*_, _^_, _≤_}
+use Prim.Native.Nat.{_-_, _≤_}
 use native.Mathlib.Omega.{arith}
-use lib.ListN.{length, take, drop}
-use borrow.Rule.Slice.PartMut.{take-put, same-len-mid}
-use Rattle.limb.specs.Carry.{bit}
-use Rattle.limb.specs.Value.{valueIn}
-use Rattle.run.proofs.Adding.{none-added, four-added, rest-added}
-use Rattle.run.proofs.Parts.{part-is, drop-put}
+use lib.ListN.{length}
+use Rattle.run.proofs.Adding.{AddedTo, none-added-to, four-added, rest-added}
+use Rattle.run.proofs.Parts.{part-is}
 use borrow.Author.Needs.{needs}
 use Rattle.run.proofs.sum.add_into.Statement.{statement}
 use Rattle.run.proofs.sum.add_into.Tie as tie
 
 abbrev Inv-loop : tie.InvT-loop
-Inv-loop target₀ operand carry up₀ i₀ target up i =
-    (i ≤ length target₀) × (length target ≡ length target₀)
-    × (valueIn (2 ^ 64) target + (2 ^ 64) ^ i * bit up ≡ valueIn (2 ^ 64) target₀ + valueIn (2 ^ 64) (take i operand) + bit carry)
+Inv-loop target₀ operand carry up₀ i₀ target up i = (i ≤ length target₀) × AddedTo i target₀ operand carry target up
 
 abbrev μ-loop : tie.MeasureT-loop
 μ-loop target₀ operand carry up₀ i₀ target up i = length target - i
@@ -32,7 +26,7 @@ returns : tie.Need-returns Inv-loop μ-loop
 returns c = search needs
 
 loop-holds : tie.Need-loop-holds Inv-loop μ-loop
-loop-holds c = (search needs, search needs, none-added (2 ^ 64) _ (c .before .before .before .args .operand .now) _)
+loop-holds c = (search needs, none-added-to _ _ _)
 
 add-loop : tie.Need-add-loop Inv-loop μ-loop
 add-loop c = search needs
@@ -65,15 +59,16 @@ loop-less : tie.Need-loop-less Inv-loop μ-loop
 loop-less c = search needs
 
 loop-again : tie.Need-loop-again Inv-loop μ-loop
-loop-again c =
-    let s4 = c .before .before in
-    let s3 = s4 .before .before .before .before in
-    let s2 = s3 .before .before .before .before in
-    let s1 = s2 .before .before .before .before in
-    let l = s1 .before .before .before .loop in
-    let four = four-added (l .target) _ _ _ _ _ (l .i) (l .up) _ _ _ _ _ _ _ (omega arith)
-    (s1 .add-limb .ensures) (s2 .add-limb2 .ensures) (s3 .add-limb3 .ensures) (s4 .add-limb4 .ensures) (l .inv .1, l .inv .2) in
-    (search needs, four .0, four .1)
+loop-again c = (
+  search needs,
+  let s4 = c .before .before in
+      let s3 = s4 .before .before .before .before in
+      let s2 = s3 .before .before .before .before in
+      let s1 = s2 .before .before .before .before in
+      let l = s1 .before .before .before .loop in
+      four-added _ _ _ (l .target) _ _ _ _ (l .i) (l .up) _ _ _ _ (omega arith)
+      (s1 .add-limb .ensures) (s2 .add-limb2 .ensures) (s3 .add-limb3 .ensures) (s4 .add-limb4 .ensures) (l .inv .1),
+)
 
 mul-add-each : tie.Need-mul-add-each Inv-loop μ-loop
 mul-add-each c = search needs
@@ -100,17 +95,8 @@ returns-2 : tie.Need-returns-2 Inv-loop μ-loop
 returns-2 c =
     let b = c .before .before in
     let l = b .before .before .before .before .loop in
-    let g = b .before .before .before .before .before .before .before .before .args in
-    let t : List ℕ = l .target in
-    let last : List ℕ = b .add-each2 .last .0 in
-    let h : l .i ≤ length t = omega arith in
-    let kept : length (g .target .now) ≤ length (g .operand .now) = omega arith in
-    rest-added (l .i) (g .target .now) t (g .operand .now) (g .carry) (l .up) _ _ (l .inv .0) kept (l .inv .1)
-    (same-len-mid (l .i) (length t - l .i) t last (b .add-each2 .ensures .same-length)) (l .inv .2)
-    record {
-      below = take-put (l .i) (length t - l .i) t last h;
-      part = rw (drop-put t last (l .i) h) (rw (part-is t (l .i), b .before .part-from .ensures) at (b .add-each2 .ensures));
-    }
+    rest-added _ _ _ (l .target) (l .up) (l .i) (l .inv .0) (omega arith) (l .inv .1) _ _
+    (rw (part-is (l .target) (l .i), b .before .part-from .ensures) at (b .add-each2 .ensures))
 
 pub add-into-spec : {M : Type 1} → statement M
 add-into-spec =
