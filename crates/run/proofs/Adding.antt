@@ -3,16 +3,19 @@ use mathlib.Core.Path.{_≡_, refl, sym, ap, _∙_}
 use mathlib.Core.Bool.{Bool}
 use mathlib.Core.List.{List, [], _++_}
 use Prim.Native.Nat.{ℕ, _+_, _-_, _*_, _^_, _≤_, _<_}
-use native.Mathlib.Nat.{pow-zero, add-assoc, add-sub-of-le}
+use native.Mathlib.Nat.{pow-zero, pow-succ', add-assoc, add-sub-of-le}
+use native.Mathlib.Numerals.{add-one}
 use native.Mathlib.Omega.{arith}
-use lib.ListN.{length, take, drop, take-append-drop, length-drop}
+use lib.ListN.{length, take, drop, set, getD, take-append-drop, length-set, length-drop}
 use lib.Pow.{pow-add}
-use lib.Seq.{getD-drop}
+use lib.Seq.{getD-drop, take-add, length-take-le}
+use borrow.Rule.Slice.PartMut.{putMid, take-put, same-len-mid}
 use Rattle.limb.specs.Carry.{bit}
 use Rattle.limb.specs.Value.{valueIn, Below}
 use Rattle.limb.proofs.Carry.{sum-unique, difference-unique}
-use Rattle.limb.proofs.Value.{value-nil, value-split, value-lt, value-unique}
-use Rattle.run.specs.Sum.{Added, Subtracted, Reversed, AddedAt, SubtractedAt}
+use Rattle.limb.proofs.Value.{value-nil, value-take, value-set, value-append, value-split, value-lt, value-unique}
+use Rattle.run.specs.Sum.{LimbAdded, Added, Subtracted, Reversed, AddedAt, SubtractedAt}
+use Rattle.parts.proofs.Parts.{part-is, drop-put}
 
 -- before any limb of the operand is added, the carry k stands at the bottom
 pub none-added : (B : ℕ) (t o : List ℕ) (k : ℕ) → valueIn B t + B ^ 0 * k ≡ valueIn B t + valueIn B (take 0 o) + k
@@ -24,6 +27,47 @@ nothing-added o carry = record { same-length = refl; value = none-added (2 ^ 64)
 
 pub nothing-subtracted : (o : List ℕ) (borrow : Bool) → Subtracted [] o borrow [] borrow
 nothing-subtracted o borrow = record { same-length = refl; value = sym (none-added (2 ^ 64) [] o (bit borrow)) }
+
+-- a sum on its way: t₀ has become t, which with the carry k on top of its lowest i limbs is worth t₀, the operand's lowest i limbs and the carry in
+pub record AddedTo (i : ℕ) (t₀ o : List ℕ) (first : Bool) (t : List ℕ) (k : Bool) : Type 0 where
+  pub same-length : length t ≡ length t₀
+  pub value : valueIn (2 ^ 64) t + (2 ^ 64) ^ i * bit k ≡ valueIn (2 ^ 64) t₀ + valueIn (2 ^ 64) (take i o) + bit first
+
+-- one turn: limb i of t becomes s with the carry out n, which are worth that limb, the operand's limb x and the carry in k
+limb-value : (B : ℕ) (t o : List ℕ) (i k all first x s n : ℕ) → i < length t → x ≡ getD o i 0 → s + B * n ≡ getD t i 0 + x + k
+    → valueIn B t + B ^ i * k ≡ all + valueIn B (take i o) + first
+    → valueIn B (set t i s) + B ^ (i + 1) * n ≡ all + valueIn B (take (i + 1) o) + first
+limb-value B t o i k all first x s n h ex e inv =
+    rw (add-one i, pow-succ' B i, value-take B i o)
+    (omega (arith, ap (λ (m : ℕ). B ^ i * m) e, ap (λ (m : ℕ). B ^ i * m) ex, value-set B t i s h))
+
+module _ (t₀ o : List ℕ) (first : Bool) where
+  pub none-added-to : AddedTo 0 t₀ o first t₀ first
+  none-added-to = record { same-length = refl; value = none-added (2 ^ 64) t₀ o (bit first) }
+
+  pub all-added : (t : List ℕ) (k : Bool) (i : ℕ) → i ≡ length t₀ → AddedTo i t₀ o first t k → Added t₀ o first t k
+  all-added t k i e a = record { same-length = a .same-length; value = rw e at (a .value) }
+
+  pub limb-added : (t : List ℕ) (k : Bool) (i x s : ℕ) (n : Bool) → i < length t → x ≡ getD o i 0 → s + 2 ^ 64 * bit n ≡ getD t i 0 + x + bit k
+      → AddedTo i t₀ o first t k → AddedTo (i + 1) t₀ o first (set t i s) n
+  limb-added t k i x s n h ex e a = record {
+    same-length = length-set t i s ∙ a .same-length;
+    value = limb-value (2 ^ 64) t o i (bit k) _ (bit first) x s (bit n) h ex e (a .value);
+  }
+
+  -- the same of a limb that `LimbAdded` speaks of, and four of them
+  added-by : (t a : List ℕ) (i j : ℕ) (k n : Bool) → j ≡ i + 1 → i < length t₀ → LimbAdded i t o k a n → AddedTo i t₀ o first t k → AddedTo j t₀ o first a n
+  added-by t a i j k n ej h s inv =
+      rw (ej, s .others) (limb-added t k i (getD o i 0) (getD a i 0) n (omega (arith, inv .same-length)) refl (s .limb) inv)
+
+  pub four-added : (t a b d e : List ℕ) (i : ℕ) (k p q r n : Bool) → i + 3 < length t₀
+      → LimbAdded i t o k a p → LimbAdded (i + 1) a o p b q → LimbAdded (i + 2) b o q d r → LimbAdded (i + 3) d o r e n
+      → AddedTo i t₀ o first t k → AddedTo (i + 4) t₀ o first e n
+  four-added t a b d e i k p q r n h sa sb sd se inv =
+      added-by d e (i + 3) (i + 4) r n (omega arith) (omega arith) se
+      (added-by b d (i + 2) (i + 3) q r (omega arith) (omega arith) sd
+      (added-by a b (i + 1) (i + 2) p q (omega arith) (omega arith) sb
+      (added-by t a i (i + 1) k p refl (omega arith) sa inv)))
 
 -- two answers that meet the promise of a sum, or of a difference either way, are one
 module _ (xs ys : List ℕ) (p q : Bool) (hx : Below (2 ^ 64) xs) (hy : Below (2 ^ 64) ys) (before operand : List ℕ) (carry : Bool) where
@@ -98,3 +142,29 @@ module _ (start : ℕ) (before operand : List ℕ) (carry : Bool) (after : List 
   subtracted-at-value a =
       raised-difference (B ^ start) (B ^ (length before - start)) _ _ _ _ (bit carry) (bit out) _ _ _ (value-split B start before) (part-split (a .below)) top-split
       (rw length-drop at (a .part .value))
+
+-- the lowest n limbs of the operand: those below limb i, and the others
+pub limbs-from : (B : ℕ) (o : List ℕ) (i n : ℕ) → i ≤ n → n ≤ length o → valueIn B (take n o) ≡ valueIn B (take i o) + B ^ i * valueIn B (take (n - i) (drop i o))
+limbs-from B o i n hi hn =
+    ap (λ (m : ℕ). valueIn B (take m o)) (sym (add-sub-of-le hi)) ∙ ap (valueIn B) (take-add i (n - i) o) ∙ value-append B (take i o) (take (n - i) (drop i o))
+    ∙ ap (λ (m : ℕ). valueIn B (take i o) + B ^ m * valueIn B (take (n - i) (drop i o))) (length-take-le i o (omega arith))
+
+sum-joined : (P all low high first k t top : ℕ) → t + P * k ≡ all + low + first → top ≡ t + P * (high + k) → top ≡ all + (low + P * high) + first
+sum-joined P all low high first k t top inv e = omega (arith, inv, e)
+
+-- the limbs below limb i have been added, and then those from there on, into that part of the target
+module _ (t₀ o : List ℕ) (first : Bool) (t : List ℕ) (k : Bool) (i : ℕ) (hi : i ≤ length t₀) (ho : length t₀ ≤ length o) (a : AddedTo i t₀ o first t k) where
+  within : i ≤ length t
+  within = omega (arith, hi, a .same-length)
+
+  rest-value : (after : List ℕ) (out : Bool) → AddedAt i t (drop i o) k after out
+      → valueIn (2 ^ 64) after + (2 ^ 64) ^ length t₀ * bit out ≡ valueIn (2 ^ 64) t₀ + valueIn (2 ^ 64) (take (length t₀) o) + bit first
+  rest-value after out r =
+      rw (limbs-from (2 ^ 64) o i (length t₀) hi ho)
+      (sum-joined ((2 ^ 64) ^ i) _ _ _ (bit first) (bit k) (valueIn (2 ^ 64) t) _ (a .value) (rw (a .same-length) at (added-at-value i t (drop i o) k after out within r)))
+
+  pub rest-added : (part : List ℕ) (out : Bool) → Added (drop i t) (drop i o) k part out → Added t₀ o first (putMid i (length t - i) t part) out
+  rest-added part out r = record {
+    same-length = same-len-mid i (length t - i) t part (rw (part-is t i) (r .same-length)) ∙ a .same-length;
+    value = rest-value _ out record { below = take-put i (length t - i) t part within; part = rw (drop-put t part i within) r };
+  }

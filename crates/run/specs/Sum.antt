@@ -5,9 +5,14 @@ use mathlib.Core.Path.{_≡_}
 use mathlib.Core.Bool.{Bool}
 use mathlib.Core.List.{List}
 use Prim.Native.Nat.{ℕ, _+_, _*_, _^_}
-use lib.ListN.{length, take, drop}
+use lib.ListN.{length, take, drop, getD, set}
 use Rattle.limb.specs.Carry.{bit}
 use Rattle.limb.specs.Value.{valueOf}
+
+-- limb i of before, of the operand and the carry are limb i of after with the carry out on top; the other limbs stay
+pub record LimbAdded (i : ℕ) (before operand : List ℕ) (carry : Bool) (after : List ℕ) (out : Bool) : Type 0 where
+  pub others : after ≡ set before i (getD after i 0)
+  pub limb : getD after i 0 + 2 ^ 64 * bit out ≡ getD before i 0 + getD operand i 0 + bit carry
 
 -- before + operand + carry is after with the carry out on top. The operand counts as far as the target goes.
 pub record Added (before operand : List ℕ) (carry : Bool) (after : List ℕ) (out : Bool) : Type 0 where
@@ -18,6 +23,11 @@ pub record Added (before operand : List ℕ) (carry : Bool) (after : List ℕ) (
 pub record Subtracted (before operand : List ℕ) (borrow : Bool) (after : List ℕ) (out : Bool) : Type 0 where
   pub same-length : length after ≡ length before
   pub value : valueOf after + valueOf (take (length before) operand) + bit borrow ≡ valueOf before + (2 ^ 64) ^ length before * bit out
+
+-- limb i of the operand less limb i of before and the borrow is limb i of after, with the borrow out on top; the other limbs stay
+pub record LimbReversed (i : ℕ) (before operand : List ℕ) (borrow : Bool) (after : List ℕ) (out : Bool) : Type 0 where
+  pub others : after ≡ set before i (getD after i 0)
+  pub limb : getD after i 0 + getD before i 0 + bit borrow ≡ getD operand i 0 + 2 ^ 64 * bit out
 
 -- operand - before - borrow is after, with the borrow out on top of the operand
 pub record Reversed (before operand : List ℕ) (borrow : Bool) (after : List ℕ) (out : Bool) : Type 0 where

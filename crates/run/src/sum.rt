@@ -4,13 +4,24 @@
 //     operand      ..  o[2]  o[1]   o[0]       0 past its end; limbs above the target are not looked at
 //     carry                         carry
 //
-ghost use lib.ListN.{drop};
-ghost use Rattle.run.specs.Sum.{Added, AddedAt};
+ghost use Prim.Native.Nat.{_<_};
+ghost use lib.ListN.{length, drop};
+ghost use Rattle.run.specs.Sum.{LimbAdded, Added, AddedAt};
 use parts::limb_at;
 use parts::part_from;
 
-// Adds the operand and a carry into the target, as far as the target goes. Returns the carry out.
-pub fn add_into(target: &mut [u64], operand: &[u64], carry: bool) -> bool
+// Adds limb i of the operand and a carry into limb i of the target. Returns the carry out.
+fn add_limb(target: &mut [u64], operand: &[u64], i: usize, carry: bool) -> bool
+    requires { ⌜ (i < length (now target)) × (i < length (now operand)) ⌝ }
+    ensures { λ r. ⌜ LimbAdded i (now (target .entry)) (now (operand .entry)) carry (now (target .exit)) r ⌝ }
+{
+    let s = limb::add_carry(target[i], operand[i], carry);
+    target[i] = s.sum;
+    s.carry
+}
+
+// The sum of add_into with one limb a turn, which may pass the operand's end.
+fn add_each(target: &mut [u64], operand: &[u64], carry: bool) -> bool
     ensures { λ r. ⌜ Added (now (target .entry)) (now (operand .entry)) carry (now (target .exit)) r ⌝ }
 {
     let mut up = carry;
@@ -22,6 +33,26 @@ pub fn add_into(target: &mut [u64], operand: &[u64], carry: bool) -> bool
         i += 1;
     }
     up
+}
+
+// Adds the operand and a carry into the target, as far as the target goes. Returns the carry out.
+// Where the operand is as long as the target, no turn has to look for its end, and four limbs a turn are one chain of additions with carry.
+pub fn add_into(target: &mut [u64], operand: &[u64], carry: bool) -> bool
+    ensures { λ r. ⌜ Added (now (target .entry)) (now (operand .entry)) carry (now (target .exit)) r ⌝ }
+{
+    if operand.len() < target.len() {
+        return add_each(target, operand, carry);
+    }
+    let mut up = carry;
+    let mut i = 0;
+    while i + 4 <= target.len() {
+        up = add_limb(target, operand, i, up);
+        up = add_limb(target, operand, i + 1, up);
+        up = add_limb(target, operand, i + 2, up);
+        up = add_limb(target, operand, i + 3, up);
+        i += 4;
+    }
+    add_each(&mut target[i..], part_from(operand, i), up)
 }
 
 // Adds the operand's limbs from start on: limb start meets the target's lowest. A start past the end leaves nothing to add.

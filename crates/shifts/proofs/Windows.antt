@@ -1,17 +1,17 @@
 -- Laws of a run read at any bit: 64 bits lie in one limb or across two, and a run moved by bits is made of such windows. Assumes nothing.
 use mathlib.Core.Path.{_≡_, refl, sym, ap, _∙_, subst}
 use Prim.Native.Nat.{ℕ, suc, _+_, _-_, _*_, _/_, _%_, _^_, _≤_, _<_}
-use native.Mathlib.Nat.{add-mul-div-left, add-mul-mod-self-left, add-mod-mod, mod-eq-of-lt, mod-lt, mul-mod-left, mul-one, add-comm, add-zero, mul-assoc, div-one}
+use native.Mathlib.Nat.{add-mul-div-left, add-mul-mod-self-left, add-mod-mod, mod-eq-of-lt, mod-lt, mul-mod-left, mul-one, add-comm, add-zero, mul-assoc, div-one, mod-one}
 use native.Mathlib.Omega.{arith}
 use native.Mathlib.Numerals.{add-one}
 use mathlib.Core.List.{List}
-use lib.ListN.{length, take, drop, getD, set}
+use lib.ListN.{length, take, drop, getD, set, length-set}
 use lib.Arith.{digits-lt}
 use lib.Pow.{pow-pos, pow-add, mod-pow-add, shl-shr, shr-shr, shr-lt}
-use lib.Seq.{take-set-le, getD-set-same}
+use lib.Seq.{take-length, take-set-le, getD-set-same}
 use lib.Bits.{bitOr, or-shifted-r}
 use Rattle.limb.specs.Value.{valueIn, Below}
-use Rattle.limb.proofs.Value.{value-unique, value-take, value-drop, value-shr, base-pow}
+use Rattle.limb.proofs.Value.{value-nil, value-unique, value-take, value-drop, value-shr, base-pow}
 use Rattle.shifts.specs.LowLimbs.{LowLimbs}
 
 -- what a left shift by u keeps at j + u bits: the low j bits of h, moved up
@@ -62,6 +62,19 @@ module _ (l : List ℕ) (q t : ℕ) (ht : t < 64) (h : Below (2 ^ 64) l) where
       sym (ap (λ (m : ℕ). m % 2 ^ 64) (from-limb ∙ ap (λ (m : ℕ). m / 2 ^ t) two-limbs)
       ∙ rw e at (window-bits t (64 - t) (getD l q 0) (getD l (q + 1) 0) (valueIn (2 ^ 64) (drop (suc (q + 1)) l)) (rw e (h q))))
 
+-- a run moved down by k bits is what is left of it above limb k / 64, moved down by less than a limb
+pub moved-down : (l : List ℕ) (k : ℕ) → Below (2 ^ 64) l → valueIn (2 ^ 64) (drop (k / 64) l) / 2 ^ (k % 64) ≡ valueIn (2 ^ 64) l / 2 ^ k
+moved-down l k h =
+    let place : 64 * (k / 64) + k % 64 ≡ k = omega arith in
+    sym (rw place at (from-limb l (k / 64) (k % 64) (omega arith) h))
+
+pub moved-down-whole : (l : List ℕ) (k : ℕ) → Below (2 ^ 64) l → k % 64 ≡ 0 → valueIn (2 ^ 64) (drop (k / 64) l) ≡ valueIn (2 ^ 64) l / 2 ^ k
+moved-down-whole l k h z = sym (div-one _) ∙ ap (λ (m : ℕ). valueIn (2 ^ 64) (drop (k / 64) l) / 2 ^ m) (sym z) ∙ moved-down l k h
+
+-- limb i of a run
+pub limb-bits : (l : List ℕ) (i : ℕ) → Below (2 ^ 64) l → getD l i 0 ≡ valueIn (2 ^ 64) l / 2 ^ (64 * i) % 2 ^ 64
+limb-bits l i h = rw add-zero at (whole l i 0 (omega arith) h refl)
+
 -- moved up by m and n bits at once
 moved-twice : (x m n : ℕ) → x * 2 ^ (m + n) ≡ x * 2 ^ m * 2 ^ n
 moved-twice x m n = ap (λ (p : ℕ). x * p) (pow-add 2 m n) ∙ sym (mul-assoc x (2 ^ m) (2 ^ n))
@@ -98,8 +111,7 @@ module _ (l : List ℕ) (k i : ℕ) (h : Below (2 ^ 64) l) where
   raised-whole hi z =
       let x : ℕ = valueIn (2 ^ 64) l in
       let j : ℕ = i - k / 64 in
-      let none : 64 * j + 0 ≡ 64 * j = omega arith in
-      (rw none at (whole l j 0 (omega arith) h refl))
+      limb-bits l j h
       ∙ sym (ap (λ (m : ℕ). m % 2 ^ 64) (from-there hi ∙ ap (λ (m : ℕ). x * 2 ^ m / 2 ^ (64 * j)) z ∙ ap (λ (m : ℕ). m / 2 ^ (64 * j)) (mul-one x)))
 
   -- the lowest limb that is not all 0
@@ -121,15 +133,36 @@ module _ (l : List ℕ) (k i : ℕ) (h : Below (2 ^ 64) l) where
       let ej : 64 * (i - k / 64) ≡ b + n = omega arith in
       sym (ap (λ (m : ℕ). m % 2 ^ 64) (from-there hi ∙ ap (λ (m : ℕ). x * 2 ^ b / 2 ^ m) ej ∙ sym (shr-shr (x * 2 ^ b) b n) ∙ ap (λ (m : ℕ). m / 2 ^ n) (shl-shr x b)))
 
--- one limb more of a number y, written at i: its 64 bits from bit 64 i on
-pub limb-written : (t : List ℕ) (y i w : ℕ) → i < length t → w ≡ y / 2 ^ (64 * i) % 2 ^ 64
+-- the 64 bits at bit b of limb i of x are limb i of x moved down by b bits
+pub window-moved : (x b i : ℕ) → x / 2 ^ (64 * i + b) % 2 ^ 64 ≡ x / 2 ^ b / 2 ^ (64 * i) % 2 ^ 64
+window-moved x b i = ap (λ (m : ℕ). m % 2 ^ 64) (ap (λ (m : ℕ). x / 2 ^ m) (add-comm (64 * i) b) ∙ sym (shr-shr x b (64 * i)))
+
+-- the limbs of a number y on their way into t₀, which has become t: those below limb i are there
+pub record WrittenTo (i y : ℕ) (t₀ t : List ℕ) : Type 0 where
+  pub same-length : length t ≡ length t₀
+  pub value : valueIn (2 ^ 64) (take i t) ≡ y % (2 ^ 64) ^ i
+
+-- one limb more, the 64 bits of y from bit 64 i on
+limb-value : (t : List ℕ) (y i w : ℕ) → i < length t → w ≡ y / 2 ^ (64 * i) % 2 ^ 64
     → valueIn (2 ^ 64) (take i t) ≡ y % (2 ^ 64) ^ i
     → valueIn (2 ^ 64) (take (i + 1) (set t i w)) ≡ y % (2 ^ 64) ^ (i + 1)
-limb-written t y i w h ew inv =
+limb-value t y i w h ew inv =
     let next : (2 ^ 64) ^ (i + 1) ≡ 2 ^ (64 + 64 * i) = base-pow (i + 1) ∙ ap (λ (m : ℕ). 2 ^ m) (omega arith) in
     let low : valueIn (2 ^ 64) (take i t) ≡ y % 2 ^ (64 * i) = inv ∙ ap (λ (m : ℕ). y % m) (base-pow i) in
     rw (next, add-one i, value-take (2 ^ 64) i (set t i w), take-set-le i t i w (omega arith), getD-set-same t i w 0 h, mod-pow-add y 64 (64 * i), base-pow i)
     (omega (arith, low, ap (λ (m : ℕ). 2 ^ (64 * i) * m) ew))
+
+module _ (y : ℕ) (t₀ : List ℕ) where
+  pub none-written : WrittenTo 0 y t₀ t₀
+  none-written = record { same-length = refl; value = value-nil (2 ^ 64) ∙ sym (mod-one y) }
+
+  pub limb-written : (t : List ℕ) (i w : ℕ) → i < length t → w ≡ y / 2 ^ (64 * i) % 2 ^ 64 → WrittenTo i y t₀ t → WrittenTo (i + 1) y t₀ (set t i w)
+  limb-written t i w h ew a = record { same-length = length-set t i w ∙ a .same-length; value = limb-value t y i w h ew (a .value) }
+
+  pub all-written : (t : List ℕ) (i : ℕ) → i ≡ length t₀ → WrittenTo i y t₀ t → LowLimbs (length t₀) y t
+  all-written t i e a =
+      let all : take i t ≡ t = ap (λ (n : ℕ). take n t) (e ∙ sym (a .same-length)) ∙ take-length t in
+      record { size = a .same-length; value = rw (sym e) (rw all at (a .value)) }
 
 -- two answers that meet `LowLimbs` agree, each with its limbs below 2^64
 pub low-limbs-unique : (room n : ℕ) (xs ys : List ℕ) → Below (2 ^ 64) xs → Below (2 ^ 64) ys → LowLimbs room n xs → LowLimbs room n ys → xs ≡ ys

@@ -1,11 +1,12 @@
 // Bits of a run of limbs at any offset, and moves by bits.
 ghost use mathlib.Core.Path.{_≡_};
-ghost use Prim.Native.Nat.{ℕ, _+_, _*_, _/_, _%_, _^_, _<_};
+ghost use Prim.Native.Nat.{ℕ, _+_, _*_, _/_, _%_, _^_, _≤_, _<_};
 ghost use lib.Dec.{eqb};
 ghost use lib.ListN.{length};
 ghost use Rattle.limb.specs.Value.{valueOf};
 ghost use Rattle.shifts.specs.LowLimbs.{LowLimbs};
 use parts::limb_at;
+use parts::part_from;
 
 // The 64 bits from bit `bits` of limb `limbs` on.
 //
@@ -33,17 +34,59 @@ pub fn window(s: &[u64], k: usize) -> u64
     window_at(s, k / 64, k % 64)
 }
 
+// The lowest limbs of a run that does not end before the target.
+fn copy_into(target: &mut [u64], s: &[u64])
+    requires { ⌜ length (now target) ≤ length (now s) ⌝ }
+    ensures { λ r. ⌜ LowLimbs (length (now (target .entry))) (valueOf (now (s .entry))) (now (target .exit)) ⌝ }
+{
+    let mut i = 0;
+    while i < target.len() {
+        target[i] = s[i];
+        i += 1;
+    }
+}
+
+// The run moved down by less than a limb, where it is longer than the target.
+fn move_into(target: &mut [u64], s: &[u64], bits: usize)
+    requires { ⌜ (length (now target) < length (now s)) × (0 < bits) × (bits < 64) ⌝ }
+    ensures { λ r. ⌜ LowLimbs (length (now (target .entry))) (valueOf (now (s .entry)) / 2 ^ bits) (now (target .exit)) ⌝ }
+{
+    let mut i = 0;
+    while i < target.len() {
+        target[i] = (s[i] >> bits) | (s[i + 1] << (64 - bits));
+        i += 1;
+    }
+}
+
+// The run moved down by less than a limb, or not at all, 0 beyond its end.
+fn windows_into(target: &mut [u64], s: &[u64], bits: usize)
+    requires { ⌜ bits < 64 ⌝ }
+    ensures { λ r. ⌜ LowLimbs (length (now (target .entry))) (valueOf (now (s .entry)) / 2 ^ bits) (now (target .exit)) ⌝ }
+{
+    let mut i = 0;
+    while i < target.len() {
+        target[i] = window_at(s, i, bits);
+        i += 1;
+    }
+}
+
 // The run moved down by k bits, into the whole target.
+// Where the run goes on past the target's top, no limb of it has to be looked for, and the loops of copy_into and move_into take many limbs a turn.
 pub fn shift_down_into(target: &mut [u64], s: &[u64], k: usize)
     ensures { λ r. ⌜ LowLimbs (length (now (target .entry))) (valueOf (now (s .entry)) / 2 ^ k) (now (target .exit)) ⌝ }
 {
-    let limbs = k / 64;
+    let part = part_from(s, k / 64);
     let bits = k % 64;
-    let mut i = 0;
-    while i < target.len() {
-        target[i] = window_at(s, limbs + i, bits);
-        i += 1;
+    if bits == 0 {
+        if target.len() <= part.len() {
+            copy_into(target, part);
+            return;
+        }
+    } else if target.len() < part.len() {
+        move_into(target, part, bits);
+        return;
     }
+    windows_into(target, part, bits)
 }
 
 // Limb i of the run moved up by k bits.

@@ -1,4 +1,4 @@
--- `run::low_is_zero` is right since the low k bits are the limbs below limb k / 64 and the low k % 64 bits of that limb. Assumes nothing.
+-- `shifts::low_is_zero` is right since the low k bits are the limbs below limb k / 64 and the low k % 64 bits of that limb. Assumes nothing.
 use mathlib.Core.Path.{_≡_, sym, _∙_}
 use Prim.Native.Nat.{ℕ, _-_, _*_, _/_, _%_, _^_, _≤_, _<_}
 use native.Mathlib.Nat.{one-mul}

@@ -1,28 +1,22 @@
--- `run::shift_up_into` is right since limb i of what is moved up by k bits is written at i. Assumes nothing.
-use mathlib.Core.Path.{_≡_, sym, _∙_}
-use mathlib.Core.List.{List}
-use Prim.Native.Nat.{ℕ, _-_, _*_, _%_, _^_, _≤_}
-use native.Mathlib.Nat.{mod-one}
+-- `shifts::shift_up_into` is right since limb i of what is moved up by k bits is written at i. Assumes nothing.
+use mathlib.Core.Path.{_≡_}
+use Prim.Native.Nat.{ℕ, _-_, _*_, _^_, _≤_}
 use native.Mathlib.Omega.{arith}
-use lib.ListN.{length, take, length-set}
-use lib.Seq.{take-length}
+use lib.ListN.{length, length-set}
 use Rattle.limb.specs.Value.{valueIn}
-use Rattle.limb.proofs.Value.{value-nil}
-use Rattle.shifts.proofs.Windows.{limb-written}
+use Rattle.shifts.proofs.Windows.{WrittenTo, none-written, limb-written, all-written}
 use borrow.Author.Needs.{needs}
 use Rattle.shifts.proofs.shift_up_into.Statement.{statement}
 use Rattle.shifts.proofs.shift_up_into.Tie as tie
 
 abbrev Inv-loop : tie.InvT-loop
-Inv-loop target₀ s k i₀ target i =
-    (i ≤ length target₀) × (length target ≡ length target₀)
-    × (valueIn (2 ^ 64) (take i target) ≡ valueIn (2 ^ 64) s * 2 ^ k % (2 ^ 64) ^ i)
+Inv-loop target₀ s k i₀ target i = (i ≤ length target₀) × WrittenTo i (valueIn (2 ^ 64) s * 2 ^ k) target₀ target
 
 abbrev μ-loop : tie.MeasureT-loop
 μ-loop target₀ s k i₀ target i = length target - i
 
 loop-holds : tie.Need-loop-holds Inv-loop μ-loop
-loop-holds c = (search needs, search needs, value-nil (2 ^ 64) ∙ sym (mod-one _))
+loop-holds c = (search needs, none-written _ _)
 
 raised-at-requires : tie.Need-raised-at-requires Inv-loop μ-loop
 raised-at-requires c κs = search needs
@@ -42,12 +36,8 @@ loop-less c = simp length-set (omega arith)
 loop-again : tie.Need-loop-again Inv-loop μ-loop
 loop-again c = (
   search needs,
-  simp length-set (omega arith),
   let l = c .before .before .loop in
-      let g = c .before .before .before .before .before .args in
-      let x : ℕ = valueIn (2 ^ 64) (g .s .now) in
-      limb-written (l .target) (x * 2 ^ g .k) (l .i) _ (omega arith)
-      (c .raised-at .ensures) (l .inv .2),
+      limb-written _ _ (l .target) (l .i) _ (omega arith) (c .raised-at .ensures) (l .inv .1),
 )
 
 same-length : tie.Need-same-length Inv-loop μ-loop
@@ -56,10 +46,7 @@ same-length c = search needs
 returns : tie.Need-returns Inv-loop μ-loop
 returns c =
     let l = c .before .loop in
-    let t : List ℕ = c .before .before .before .before .args .target .now in
-    let e : l .i ≡ length (l .target) = omega arith in
-    let same : length (l .target) ≡ length t = omega arith in
-    record { size = same; value = rw same at (rw (take-length (l .target)) at (rw e at (l .inv .2))) }
+    all-written _ _ _ (l .i) (omega arith) (l .inv .1)
 
 pub shift-up-into-spec : {M : Type 1} → statement M
 shift-up-into-spec =

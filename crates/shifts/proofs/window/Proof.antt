@@ -1,4 +1,4 @@
--- `run::window` is right since bit k is bit k % 64 of limb k / 64. Assumes nothing.
+-- `shifts::window` is right since bit k is bit k % 64 of limb k / 64. Assumes nothing.
 use mathlib.Core.Path.{_≡_}
 use Prim.Native.Nat.{ℕ, _+_, _*_, _/_, _%_}
 use native.Mathlib.Omega.{arith}
