@@ -1,1 +1,3 @@
+pub mod Unread
+pub mod FullTarget
 pub mod Level

@@ -12,8 +12,10 @@ use Rattle.depth.specs.Bound.{deepest}
 use Rattle.decide.specs.Decide.{decideAt}
 use Rattle.place.specs.Placed.{runNumber}
 use Rattle.settle.specs.declared.rows.Pair.{Pair}
-use Rattle.bridge.specs.Verdict.{pairOf}
-use Rattle.descent.specs.Course.{Course}
+use Rattle.walk.specs.declared.state.Window.{Window}
+use Rattle.leap.specs.Leap.{Leapt}
+use Rattle.bridge.specs.Verdict.{pairOf, readSum}
+use Rattle.descent.specs.Course.{Course, Prompt}
 use Rattle.wide.specs.declared.fill.Filled.{Filled}
 
 -- what the code holds of two regular operands in order, the first larger from the first column on where their signs are unlike
@@ -43,3 +45,10 @@ pub record Rounds (o : Mode) (p : ℕ) (x y : Operand) (exit : List ℕ) (carry 
 abbrev pub Fills : ℕ → Pair → List ℕ → List ℕ → List ℕ → Filled → Type 0
 Fills p pair first second exit r =
     r .open ≡ false → (o : Mode) (x y : Operand) → Holding x y pair first second → Rounds o p x y exit (r .carry) (r .guard) (r .more) (r .depth)
+
+-- the columns that fill the target are read, and their carry
+pub record Promptly (pair : Pair) (first second before after : List ℕ) (w : Window) (carry : Bool) : Type 0 where
+  pub prompt : Prompt pair (length first) (length second) 0 (length before)
+  pub filled : (x y : Operand) → Course x y 0 → pair ≡ pairOf x y → first ≡ x .limbs → (y .isZero ≡ false → second ≡ y .limbs) → Leapt 0 (0 + length before) (readSum x y (0 + length before)) before after w
+  pub size : length after ≡ length before
+  pub carry-is : w .carry ≡ carry
