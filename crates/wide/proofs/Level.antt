@@ -1,8 +1,7 @@
 -- A sum of no more digits than are asked for is open while digits of the operands are unread. Assumes nothing.
-use mathlib.Core.Path.{_≡_, refl, sym, ap, _∙_}
+use mathlib.Core.Path.{_≡_, refl, ap, _∙_}
 use mathlib.Core.Bool.{Bool, true, false, not, cond, _&&_, _||_}
-use Prim.Native.Nat.{ℕ, _+_, _-_, _*_, _/_, _%_, _^_, _≤_, _<_, Ordering·eq, Ordering·lt, Ordering·gt}
-use native.Mathlib.Decide.{decLe}
+use Prim.Native.Nat.{ℕ, _+_, _-_, _*_, _%_, _^_, _≤_, _<_}
 use native.Mathlib.Omega.{arith}
 use borrow.Author.Tests.{le-ltb, lt-leb, ne-eqb}
 use lib.Dec.{ltb, leb, eqb}
@@ -13,11 +12,10 @@ use Rattle.numbers.specs.Operand.{Operand}
 use Rattle.numbers.proofs.Digits.{precision-two}
 use Rattle.rounding.specs.Mode.{Mode, Way, near, under, over, way}
 use Rattle.rounding.proofs.Order.{size-mono}
-use Rattle.decide.specs.Class.{off, lean, alike, enough, settled}
+use Rattle.decide.specs.Class.{off, lean, enough, settled}
 use Rattle.decide.specs.Decide.{decideAt}
 use Rattle.settle.specs.Rows.{rowOf, seenRow}
 use Rattle.settle.specs.declared.rows.Pair.{Pair}
-use Rattle.settle.specs.declared.rows.Row.{Row}
 use Rattle.settle.specs.declared.rows.Row.the-variants.{Plus, Minus}
 use Rattle.bridge.specs.Verdict.{pairOf, Ordered, Leads, readSum, settledBy, refusedBy, inner?}
 use Rattle.bridge.proofs.Told.{pair-second}

@@ -1,3 +1,4 @@
 pub mod Unread
 pub mod FullTarget
 pub mod Level
+pub mod GuardBelow
