@@ -8,3 +8,5 @@ pub use front::walk_first;
 pub use going::Verdict;
 pub use going::Walked;
 pub use going::walk_down;
+pub use prompt::fill;
+pub use prompt::is_prompt;

@@ -1,0 +1,4 @@
+pub mod Unread
+pub mod FullTarget
+pub mod Level
+pub mod GuardBelow

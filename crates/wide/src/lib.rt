@@ -1,0 +1,6 @@
+// A sum read at once into its target, where the columns that fill it, or one more, fix the answer.
+mod fill; // fill.rt: which way the target is filled
+mod below; // below.rt: what lies below the columns read
+mod exactly; // exactly.rt: the columns that fill the target fix the answer
+mod guarded; // guarded.rt: one column more fixes it
+mod hollow; // hollow.rt: the second operand lies below all that is read of the first
