@@ -16,7 +16,8 @@ use Rattle.rounding.specs.Mode.{modeOf, way}
 use Rattle.rounding.specs.Select.{quotient, onGrid, unit, chosen}
 use Rattle.rounding.specs.Answer.{zeroOf, number, tooLarge, tooSmall, ranged, digits, signed, rounded}
 use Rattle.place.specs.declared.Placed.{Placed}
-use Rattle.place.specs.Placed.{ternaryOf, runNumber, runAnswer, runRule, placedOf, limbsAfter}
+use Rattle.location.specs.Ternary.{ternaryOf}
+use Rattle.place.specs.Placed.{runNumber, runAnswer, runRule, placedOf, limbsAfter}
 use Rattle.place.specs.Rounded.{refusedBy, roundedPlaced, roundedLimbs}
 
 -- rule, exponent, ternary value and limbs
