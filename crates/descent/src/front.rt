@@ -37,7 +37,7 @@ fn half_of(drop: u64) -> u64
 }
 
 // Whether the last `drop` digits of a limb, the first of them left out, are neither all zeros nor all ones.
-fn lies_inside(low: u64, drop: u64) -> bool
+pub fn lies_inside(low: u64, drop: u64) -> bool
     requires { ⌜ (0 < drop) × (drop ≤ 64) ⌝ }
     ensures { λ r. ⌜ (r ≡ true → (1 ≤ low % 2 ^ (drop - 1)) × (low % 2 ^ (drop - 1) + 1 < 2 ^ (drop - 1))) ⌝ }
 {

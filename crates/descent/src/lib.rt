@@ -3,6 +3,7 @@ mod prompt; // prompt.rt: the columns that fill the target, read at once
 mod going; // going.rt: the walk down the columns
 mod front; // front.rt: the short way of a sum
 
+pub use front::lies_inside;
 pub use front::walk_first;
 pub use going::Verdict;
 pub use going::Walked;

@@ -7,3 +7,5 @@ pub mod Reach
 pub mod Rules
 pub mod Unit
 pub mod OneLimb
+pub mod Finer
+pub mod Normalized

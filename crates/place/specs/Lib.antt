@@ -2,3 +2,4 @@ pub mod Placed
 pub mod Rounded
 pub mod Location
 pub mod Walk
+pub mod Normal

@@ -16,6 +16,7 @@ mod rest; // rest.rt: where the part below the last kept digit lies, and what ea
 mod truncation; // truncation.rt: walk one
 mod increment; // increment.rt: walk two
 mod limits; // limits.rt: which runs are rounded, and which exponents are in range
+mod one; // one.rt: a run of one limb by value, wherever its first digit stands
 
 use increment::is_odd;
 use increment::raise;
@@ -23,6 +24,7 @@ use increment::round_up;
 use limits::run_rule;
 use limits::settle;
 use limits::settle_limb;
+pub use one::round_one;
 use rest::locate;
 use rest::rounds_up;
 use rest::ternary;

@@ -1,0 +1,44 @@
+-- What the first column of two operands fixes, on the numbers that the code holds of them. Definitions only.
+use Prim.Native.Nat.{ℕ, _-_, _^_, _≤_, _<_}
+use mathlib.Core.Path.{_≡_}
+use mathlib.Core.Bool.{true, false}
+use mathlib.Core.List.{List, [], _∷_}
+use lib.ListN.{length, getD}
+use Rattle.numbers.specs.Limits.{leastPrecision, mostPrecision, leastExponent, mostExponent}
+use Rattle.numbers.specs.Operand.{Operand}
+use Rattle.rounding.specs.Mode.{Mode}
+use Rattle.rounding.specs.Sum.{add}
+use Rattle.decide.specs.Decide.{decideAt}
+use Rattle.place.specs.declared.Placed.{Placed}
+use Rattle.settle.specs.declared.rows.Pair.{Pair}
+use Rattle.bridge.specs.Verdict.{pairOf}
+use Rattle.descent.specs.Course.{Course}
+use Rattle.ending.specs.Finishing.{Left}
+
+-- the top limb of a number
+unfoldable pub topLimb : List ℕ → ℕ
+topLimb l = getD l (length l - 1) 0
+
+-- what the code holds of two regular operands in order: the pair, and the two top limbs
+pub record Held (x y : Operand) (pair : Pair) (u v : ℕ) : Type 0 where
+  pub course : Course x y 0
+  pub regular : y .isZero ≡ false
+  pub pair-is : pair ≡ pairOf x y
+  pub first-top : u ≡ topLimb (x .limbs)
+  pub second-top : v ≡ topLimb (y .limbs)
+
+-- what is asked of them: digits that one limb holds with two to spare, and a first limb with its first digit
+pub record Facing (p : ℕ) (pair : Pair) (u : ℕ) : Type 0 where
+  pub least : leastPrecision ≤ p
+  pub most : p ≤ 62
+  pub led : 2 ^ 63 ≤ u
+  pub second-some : 0 < pair .second
+  pub second-few : pair .second ≤ mostPrecision
+  pub gap : pair .gap ≤ pair .top
+  pub low : leastExponent ≤ pair .top
+  pub high : pair .top ≤ mostExponent
+
+-- the first column fixes the answer, and the answer stands in one limb
+pub record Told (o : Mode) (p : ℕ) (x y : Operand) (limb : ℕ) (placed : Placed) : Type 0 where
+  pub fixed : decideAt o p x y 1 ≡ true
+  pub left : Left p (add o p x y) (limb ∷ []) placed

@@ -1,0 +1,11 @@
+// A sum that its first column fixes, rounded to digits that one limb holds with two to spare: by value, without the target.
+//
+//     column 0
+//     first    [ u                  ] ..
+//     second        [ v             ] ..      gap digits below
+//     sum    c [ limb               ]         p digits, and below them the rest
+mod column; // column.rt: the first column as a run to be rounded
+mod seeing; // seeing.rt: the run rounded
+
+pub use seeing::Seen;
+pub use seeing::see;

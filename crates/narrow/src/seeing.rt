@@ -1,0 +1,59 @@
+// What the first column of two operands fixes, rounded.
+ghost use mathlib.Core.Path.{_≡_};
+ghost use mathlib.Core.Bool.{true, false};
+ghost use Prim.Native.Nat.{_/_, _^_, _<_};
+ghost use Rattle.numbers.specs.Operand.{Operand};
+ghost use Rattle.rounding.specs.Mode.{modeOf};
+ghost use Rattle.narrow.specs.Sighting.{Held, Facing, Told};
+use crate::column::column_of;
+use place::Placed;
+use settle::Pair;
+
+// What one column says: nothing yet, or the answer's limb, exponent and ternary value.
+pub struct Seen {
+    pub open: bool,
+    pub limb: u64,
+    pub placed: Placed,
+}
+
+// Nothing yet.
+fn nothing() -> Seen
+    ensures { λ r. ⌜ r .open ≡ true ⌝ }
+{
+    Seen {
+        open: true,
+        limb: 0,
+        placed: Placed {
+            rule: 0,
+            exponent: 0,
+            ternary: 0,
+        },
+    }
+}
+
+// What the first column of two operands in order fixes; of unlike signs the first is then seen to be the larger.
+pub fn see(mode: u8, negative: bool, p: u64, pair: Pair, u: u64, v: u64) -> Seen
+    requires { ⌜ Facing p pair u ⌝ }
+    ensures { λ r. ⌜ (r .open ≡ false → pair .same ≡ false → v / 2 ^ pair .gap < u) × (r .open ≡ false → (x y : Operand) → Held x y pair u v → negative ≡ x .negative → Told (modeOf mode) p x y (r .limb) (r .placed)) ⌝ }
+{
+    let c = column_of(p, pair, u, v);
+    if !c.fixed {
+        return nothing();
+    }
+    let r = place::round_one(
+        negative,
+        c.carry,
+        c.limb,
+        c.guard,
+        c.more,
+        pair.top - 128,
+        p,
+        mode,
+    );
+    let placed = r.placed;
+    Seen {
+        open: false,
+        limb: r.limb,
+        placed: placed,
+    }
+}

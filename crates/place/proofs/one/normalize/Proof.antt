@@ -1,0 +1,69 @@
+-- `place::one::normalize` is right since a limb that is not 0 has a first digit, the zeros above it tell how far it goes up, and a carry
+-- is a first digit one above the limb. Assumes nothing.
+use native.Mathlib.Omega.{arith}
+use lib.Count.{leadingZeros}
+use Rattle.numbers.specs.Limits.{mostExponent, bias}
+use Rattle.place.proofs.Normalized.{ToTop, zeros-top, lowered, stays, raised}
+use borrow.Author.Needs.{needs}
+use Rattle.place.proofs.one.normalize.Statement.{statement}
+use Rattle.place.proofs.one.normalize.Tie as tie
+
+-- the limb is not 0 where there is no carry
+top : (c : tie.Else1) → ToTop (c .before .args .limb) (leadingZeros 64 (c .before .args .limb))
+top c = let s = c .before in zeros-top (s .args .limb) (s .pre .0 (c .if1 .left)) (s .fits .limb .fits)
+
+add-higher : tie.Need-add-higher
+unfolding mostExponent bias
+add-higher c = search needs
+
+returns : tie.Need-returns
+returns c =
+    let s = c .before in
+    let g = s .args in
+    lowered (g .carry) (g .limb) (g .guard) (g .more) (g .unit) (s .fits .limb .fits) (s .fits .guard .fits) (c .if1 .taken)
+
+cast-zeros : tie.Need-cast-zeros
+cast-zeros c = record { fits = omega (arith, top c .few) }
+
+returns-2 : tie.Need-returns-2
+returns-2 c =
+    let s = c .before .before in
+    let g = s .args in
+    stays (g .carry) (g .limb) (g .guard) (g .more) (g .unit) (s .fits .limb .fits) (s .fits .guard .fits) (c .before .if1 .left) (leadingZeros 64 (g .limb)) (top (c .before)) (c .if2 .taken)
+
+shl-moved : tie.Need-shl-moved
+shl-moved c = top (c .before) .few
+
+sub-entering : tie.Need-sub-entering
+sub-entering c = omega (arith, top (c .before) .few)
+
+shr-entering : tie.Need-shr-entering
+shr-entering c = search needs
+
+shl-left : tie.Need-shl-left
+shl-left c = top (c .before) .few
+
+sub-lower : tie.Need-sub-lower
+sub-lower c = omega (arith, top (c .before) .few, c .before .before .pre .1)
+
+returns-3 : tie.Need-returns-3
+returns-3 c =
+    let s = c .before .before in
+    let g = s .args in
+    raised (g .carry) (g .limb) (g .guard) (g .more) (g .unit) (s .fits .limb .fits) (s .fits .guard .fits) (leadingZeros 64 (g .limb)) (top (c .before)) (omega arith)
+    (omega (arith, top (c .before) .few, s .pre .1)) (c .before .if1 .left)
+
+pub normalize-spec : {M : Type 1} → statement M
+normalize-spec =
+    tie.close
+    (tie.spec
+    add-higher
+    returns
+    cast-zeros
+    returns-2
+    shl-moved
+    sub-entering
+    shr-entering
+    shl-left
+    sub-lower
+    returns-3)

@@ -1,0 +1,81 @@
+// A run of one limb, by value: its digits from the first on come to the top of the limb, and are rounded there.
+//
+//     carry | limb | guard | more
+//       1 b b b b b b b b b b b            a carry: one bit down
+//           0 0 1 b b b b b b b            none: up, as far as there are zeros
+//
+ghost use mathlib.Core.Path.{_≡_};
+ghost use mathlib.Core.Bool.{false};
+ghost use mathlib.Core.List.{[], _∷_};
+ghost use Prim.Native.Nat.{_*_, _<_};
+ghost use Rattle.numbers.specs.Limits.{mostExponent};
+ghost use Rattle.place.specs.Normal.{Normalized};
+ghost use Rattle.place.specs.Placed.{runRule};
+ghost use Rattle.place.specs.Rounded.{roundedPlaced, roundedLimbs};
+use crate::PlacedLimb;
+use crate::round_limb;
+
+// 2^63: the first digit of a limb.
+const FIRST_DIGIT: u64 = 9223372036854775808;
+
+// The digits of a run from its first on in one limb and a guard, and the weight of the guard's last digit.
+struct Normal {
+    limb: u64,
+    guard: u64,
+    more: bool,
+    unit: u64,
+}
+
+// The run with its first digit at the top of the limb.
+fn normalize(carry: bool, limb: u64, guard: u64, more: bool, unit: u64) -> Normal
+    requires { ⌜ (carry ≡ false → 0 < limb) × (64 < unit) × (unit < 2 * mostExponent) ⌝ }
+    ensures { λ r. ⌜ Normalized carry limb guard more unit r ⌝ }
+{
+    if carry {
+        let higher = unit + 1;
+        return Normal {
+            limb: (limb >> 1) | FIRST_DIGIT,
+            guard: (limb << 63) | (guard >> 1),
+            more: (guard % 2 != 0) | more,
+            unit: higher,
+        };
+    }
+    let zeros = u64::leading_zeros(limb) as u64;
+    if zeros == 0 {
+        return Normal {
+            limb,
+            guard,
+            more,
+            unit,
+        };
+    }
+    let moved = limb << zeros;
+    let entering = guard >> (64 - zeros);
+    let left = guard << zeros;
+    let lower = unit - zeros;
+    Normal {
+        limb: moved | entering,
+        guard: left,
+        more,
+        unit: lower,
+    }
+}
+
+// Rounds a run of one limb as `round_fit` does, by value.
+pub fn round_one(
+    negative: bool,
+    carry: bool,
+    limb: u64,
+    guard: u64,
+    more: bool,
+    unit: u64,
+    precision: u64,
+    mode: u8,
+) -> PlacedLimb
+    requires { ⌜ (runRule precision carry (limb ∷ []) unit ≡ 0) × (64 < unit) × (unit < 2 * mostExponent) ⌝ }
+    ensures { λ r. ⌜ r .placed ≡ roundedPlaced mode precision negative unit carry (limb ∷ []) guard more ⌝ }
+    ensures { λ r. ⌜ r .limb ∷ [] ≡ roundedLimbs mode precision negative unit carry (limb ∷ []) guard more ⌝ }
+{
+    let n = normalize(carry, limb, guard, more, unit);
+    round_limb(negative, n.limb, n.guard, n.more, n.unit, precision, mode)
+}
