@@ -353,7 +353,7 @@ fn single_passes(mode: u8, x: Number, xl: &[u64], p: u64, n: usize) -> bool
 }
 
 // The same number, in a place of its own: what is lent to the ordered tests alone need not stand in memory before them.
-fn copied(x: Number) -> Number
+pub fn copied(x: Number) -> Number
     ensures { λ r. ⌜ r ≡ x ⌝ }
 {
     let kind = x.kind;
@@ -376,6 +376,17 @@ fn refuse_operands(mode: u8, x: Number, xl: &[u64], y: Number, yl: &[u64]) -> Re
     }
 }
 
+// The same with a target of p digits in n limbs.
+fn refuse_pair(mode: u8, x: Number, xl: &[u64], y: Number, yl: &[u64], p: u64, n: usize) -> Refusal
+    ensures { λ r. ⌜ r ≡ pairRefusal mode (operandOf x (now (xl .entry))) (operandOf y (now (yl .entry))) p n ⌝ }
+{
+    let r = refuse(mode, copied(x), xl, copied(y), yl, p, n);
+    Refusal {
+        rule: r.rule,
+        place: r.place,
+    }
+}
+
 // Refusals 1 to 5 of two operands under a mode, with a target of p digits in n limbs.
 pub fn check_pair(
     mode: u8,
@@ -391,7 +402,7 @@ pub fn check_pair(
     if pair_passes(mode, x, xl, y, yl, p, n) {
         return Refusal { rule: 0, place: 0 };
     }
-    refuse(mode, x, xl, y, yl, p, n)
+    refuse_pair(mode, x, xl, y, yl, p, n)
 }
 
 // The same of one operand and a target.
