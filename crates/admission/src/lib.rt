@@ -104,7 +104,7 @@ pub fn check_pair(
     if pair_passes(mode, x, xl, y, yl, p, n) {
         return Refusal { rule: 0, place: 0 };
     }
-    refusals::refuse(mode, x, xl, y, yl, p, n)
+    refusals::refuse_pair(mode, x, xl, y, yl, p, n)
 }
 
 // The same of one operand and a target.

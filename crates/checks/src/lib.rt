@@ -172,3 +172,16 @@ pub fn form_holds(x: Number, l: &[u64]) -> bool
     }
     top_bit_holds(l) & spare_bits_hold(x.precision, l)
 }
+
+// The same number, in a place of its own: what is lent to a slower way alone need not stand in memory on the quick one.
+pub fn copied(x: Number) -> Number
+    ensures { λ r. ⌜ r ≡ x ⌝ }
+{
+    let kind = x.kind;
+    Number {
+        negative: x.negative,
+        kind: kind,
+        precision: x.precision,
+        exponent: x.exponent,
+    }
+}

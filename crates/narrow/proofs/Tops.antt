@@ -18,6 +18,7 @@ use Rattle.rounding.specs.Mode.{modeOf, way}
 use Rattle.rounding.specs.Answer.{rounded}
 use Rattle.rounding.specs.Sum.{add}
 use Rattle.decide.specs.Decide.{decideAt}
+use Rattle.checks.proofs.Form.{lead-top-bit}
 use Rattle.place.specs.declared.Placed.{Placed}
 use Rattle.place.specs.Placed.{runNumber, runAnswer, runRule, placedOf, limbsAfter}
 use Rattle.place.specs.Rounded.{roundedPlaced, roundedLimbs}
@@ -28,6 +29,7 @@ use Rattle.leap.proofs.Leaping.{read-down}
 use Rattle.settle.specs.declared.rows.Pair.{Pair}
 use Rattle.bridge.specs.Verdict.{pairOf, readSum}
 use Rattle.bridge.proofs.Told.{pair-top}
+use Rattle.ending.proofs.RegularEnd.{rounded-signed}
 use Rattle.narrow.specs.declared.column.Column.{Column}
 use Rattle.narrow.specs.Sighting.{topLimb, Held, Facing, Told}
 use Rattle.narrow.specs.Column.{firstRead, Found}
@@ -51,8 +53,13 @@ top-read gap l below some =
         let none : drop (suc (length l - 1)) l ≡ [] = drop-of-length-le l {i = suc (length l - 1)} (omega arith) in
         value-drop (2 ^ 64) (length l - 1) l ∙ rw (none, value-nil) (omega arith)
 
-limbs-some : (x : Operand) → WellFormed x → 0 < length (x .limbs)
+pub limbs-some : (x : Operand) → WellFormed x → 0 < length (x .limbs)
 limbs-some x h = rw (h .count) (omega (arith, two-digits, h .least, limbs-hold (x .precision)))
+
+-- a regular number's first digit is 1
+pub top-led : (x : Operand) → WellFormed x → x .isZero ≡ false → 2 ^ 63 ≤ topLimb (x .limbs)
+unfolding topLimb
+top-led x g r = rw (g .count) (lead-top-bit (x .limbs) (g .limb) _ (rw (g .count) at (limbs-some x g)) (g .count) (g .regular r .lead))
 
 module _ (x y : Operand) (pair : Pair) (u v : ℕ) (h : Held x y pair u v) where
   first-read : readTo 1 0 (x .limbs) ≡ u
@@ -136,6 +143,7 @@ module _ (p : ℕ) (pair : Pair) (u v : ℕ) (f : Facing p pair u) (r : Column) 
           told = e ∙ placed-passed mode p negative unit (r .carry) (r .limb ∷ []) (r .guard) (r .more) run-passes ∙ ap placedOf is;
           limbs = g ∙ limbs-passed mode p negative unit (r .carry) (r .limb ∷ []) (r .guard) (r .more) run-passes ∙ ap (limbsAfter p) is;
         };
+        signed = rw (says .1) (rounded-signed _ _ _ _ _);
       }
     where
       says : (decideAt (modeOf mode) p x y 1 ≡ true) × (add (modeOf mode) p x y ≡ rounded (way (modeOf mode) (x .negative)) p (x .exponent - 128 - 1) (x .negative) N)

@@ -1,2 +1,3 @@
 pub mod Sighting
 pub mod Column
+pub mod Looked

@@ -13,7 +13,7 @@ use Rattle.place.specs.declared.Placed.{Placed}
 use Rattle.settle.specs.declared.rows.Pair.{Pair}
 use Rattle.bridge.specs.Verdict.{pairOf}
 use Rattle.descent.specs.Course.{Course}
-use Rattle.ending.specs.Finishing.{Left}
+use Rattle.ending.specs.Finishing.{Left, Signed}
 
 -- the top limb of a number
 unfoldable pub topLimb : List ℕ → ℕ
@@ -38,7 +38,8 @@ pub record Facing (p : ℕ) (pair : Pair) (u : ℕ) : Type 0 where
   pub low : leastExponent ≤ pair .top
   pub high : pair .top ≤ mostExponent
 
--- the first column fixes the answer, and the answer stands in one limb
+-- the first column fixes the answer, which stands in one limb and has the sign of the first operand
 pub record Told (o : Mode) (p : ℕ) (x y : Operand) (limb : ℕ) (placed : Placed) : Type 0 where
   pub fixed : decideAt o p x y 1 ≡ true
   pub left : Left p (add o p x y) (limb ∷ []) placed
+  pub signed : Signed (x .negative) (add o p x y)

@@ -6,6 +6,8 @@
 //     sum    c [ limb               ]         p digits, and below them the rest
 mod column; // column.rt: the first column as a run to be rounded
 mod seeing; // seeing.rt: the run rounded
+mod looking; // looking.rt: the same of two operands in any order
 
+pub use looking::Sight;
+pub use looking::look;
 pub use seeing::Seen;
-pub use seeing::see;

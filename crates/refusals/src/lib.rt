@@ -105,24 +105,38 @@ pub fn refuse(mode: u8, x: Number, xl: &[u64], y: Number, yl: &[u64], p: u64, n:
     )
 }
 
-// The same number, in a place of its own: what is lent to the ordered tests alone need not stand in memory before them.
-fn copied(x: Number) -> Number
-    ensures { λ r. ⌜ r ≡ x ⌝ }
-{
-    let kind = x.kind;
-    Number {
-        negative: x.negative,
-        kind: kind,
-        precision: x.precision,
-        exponent: x.exponent,
-    }
-}
-
 // The refusal of two operands under a mode, with no target.
 pub fn refuse_operands(mode: u8, x: Number, xl: &[u64], y: Number, yl: &[u64]) -> Refusal
     ensures { λ r. ⌜ r ≡ pairRefusal mode (operandOf x (now (xl .entry))) (operandOf y (now (yl .entry))) (x .precision) (length (now (xl .entry))) ⌝ }
 {
-    let r = refuse(mode, copied(x), xl, copied(y), yl, x.precision, xl.len());
+    let r = refuse(
+        mode,
+        checks::copied(x),
+        xl,
+        checks::copied(y),
+        yl,
+        x.precision,
+        xl.len(),
+    );
+    Refusal {
+        rule: r.rule,
+        place: r.place,
+    }
+}
+
+// The same with a target of p digits in n limbs.
+pub fn refuse_pair(
+    mode: u8,
+    x: Number,
+    xl: &[u64],
+    y: Number,
+    yl: &[u64],
+    p: u64,
+    n: usize,
+) -> Refusal
+    ensures { λ r. ⌜ r ≡ pairRefusal mode (operandOf x (now (xl .entry))) (operandOf y (now (yl .entry))) p n ⌝ }
+{
+    let r = refuse(mode, checks::copied(x), xl, checks::copied(y), yl, p, n);
     Refusal {
         rule: r.rule,
         place: r.place,

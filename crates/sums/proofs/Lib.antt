@@ -5,5 +5,6 @@ pub mod Zeros
 pub mod Entries
 pub mod RegularParts
 pub mod RegularReport
+pub mod AtOnce
 pub mod RegularLevel
 pub mod Examples

@@ -28,9 +28,10 @@ use Rattle.descent.specs.Course.{Begun, Course, Stopped}
 use Rattle.ending.specs.Finishing.{Ending, Left, Signed}
 use Rattle.sums.specs.Level.{usedOf}
 use Rattle.sums.specs.Summed.{sumOf, refusedSum, Reported}
+use Rattle.ending.proofs.Handed.{ordered-pair}
 use Rattle.ending.proofs.RegularEnd.{depth-told, signed-told, ending, not-deep}
 
-sum-depth : (a : Answer) (p d u v : ℕ) → sumOf a p d u v .depth ≡ d
+pub sum-depth : (a : Answer) (p d u v : ℕ) → sumOf a p d u v .depth ≡ d
 unfolding sumOf refusedSum
 sum-depth (zeroOf n) p d u v = refl
 sum-depth (number n e m t) p d u v = refl
@@ -100,17 +101,6 @@ unfolding pairOf operandOf
 single-pair x xl z c e f = rw (e, f) refl
 
 -- ---- two in order
-
-pub ordered-pair : (x : Number) (xl : List ℕ) (y : Number) (yl : List ℕ) (c d : ℕ) → operandOf y yl .isZero ≡ false → c ≡ counted (x .exponent) → d ≡ counted (y .exponent)
-    → record { same = Bool·beq (x .negative) (y .negative); first = x .precision; second = y .precision; gap = c - d; top = c } ≡ pairOf (operandOf x xl) (operandOf y yl)
-unfolding pairOf operandOf
-ordered-pair x xl y yl c d e f g = rw (e, f, g) (ap (λ (b : Bool). record { same = b; first = x .precision; second = y .precision; gap = counted (x .exponent) - counted (y .exponent); top = counted (x .exponent) }) (like (x .negative) (y .negative)))
-  where
-    like : (a b : Bool) → Bool·beq a b ≡ cond a b (not b)
-    like true true = refl
-    like true false = refl
-    like false true = refl
-    like false false = refl
 
 module _ (x : Number) (xl : List ℕ) (y : Number) (yl : List ℕ) (from c d : ℕ) (ye : operandOf y yl .isZero ≡ false) (course : Course (operandOf x xl) (operandOf y yl) from) (f : c ≡ counted (x .exponent)) (g : d ≡ counted (y .exponent)) where
   order-is : counted (y .exponent) ≤ counted (x .exponent)

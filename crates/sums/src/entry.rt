@@ -1,15 +1,16 @@
 // Add, subtract, re-round.
 ghost use mathlib.Core.Path.{_≡_};
-ghost use mathlib.Core.Bool.{true};
+ghost use mathlib.Core.Bool.{true, false};
 ghost use Prim.Native.Nat.{ℕ, _≤_};
 ghost use mathlib.Core.List.{List};
 ghost use lib.ListN.{length};
 ghost use Rattle.numbers.specs.Operand.{WellFormed};
 ghost use Rattle.rounding.specs.Mode.{modeOf};
 ghost use Rattle.depth.specs.Depth.{plus, minus};
-ghost use Rattle.checks.specs.Number.{operandOf};
+ghost use Rattle.checks.specs.Number.{isZeroKind, operandOf};
 ghost use Rattle.sums.specs.Summed.{Reported, Summed, Rerounded};
 ghost use Rattle.descent.specs.Ready.{Room};
+use crate::regular::answered;
 use crate::regular::both;
 use crate::regular::single;
 use crate::report::Sum;
@@ -45,7 +46,14 @@ fn summed(mode: u8, x: Number, xl: &[u64], y: Number, yl: &[u64], p: u64, target
     both(mode, x, xl, y, yl, p, target)
 }
 
-// x + y, rounded to p digits.
+// Whether two numbers are regular, and the digits are so few that their first column may tell all.
+fn is_narrow(p: u64, x: Number, y: Number) -> bool
+    ensures { λ r. ⌜ (r ≡ true → (p ≤ 62) × (isZeroKind (x .kind) ≡ false) × (isZeroKind (y .kind) ≡ false)) ⌝ }
+{
+    (p <= 62) & !checks::is_zero(x) & !checks::is_zero(y)
+}
+
+// x + y, rounded to p digits: at once where the first column fixes it.
 pub fn add(
     mode: u8,
     x: Number,
@@ -61,7 +69,24 @@ pub fn add(
     if refusal.rule != 0 {
         return refused(refusal, 0, 0, 0);
     }
-    summed(mode, x, xl, y, yl, p, target)
+    if is_narrow(p, x, y) {
+        let sight = narrow::look(mode, x, xl, y, yl, p);
+        let seen = sight.seen;
+        if !seen.open {
+            let placed = seen.placed;
+            target[0] = seen.limb;
+            return answered(placed, sight.negative, p, 1, sight.first, sight.second);
+        }
+    }
+    summed(
+        mode,
+        checks::copied(x),
+        xl,
+        checks::copied(y),
+        yl,
+        p,
+        target,
+    )
 }
 
 // x - y, rounded to p digits: the sum with the second sign turned.

@@ -40,7 +40,7 @@ fn used(k: u64, gap: u64, limbs: usize) -> u64
 }
 
 // The answer as it is reported.
-fn answered(placed: Placed, negative: bool, p: u64, depth: u64, first: u64, second: u64) -> Sum
+pub fn answered(placed: Placed, negative: bool, p: u64, depth: u64, first: u64, second: u64) -> Sum
     ensures { λ r. ⌜ ((a : Answer) → Signed negative a → placed ≡ placedOf a → r ≡ sumOf a p depth first second) ⌝ }
 {
     if placed.rule != 0 {

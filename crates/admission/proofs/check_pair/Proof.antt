@@ -12,11 +12,11 @@ returns : tie.Need-returns
 unfolding accepted
 returns c = sym (c .before .pair-passes .ensures (c .if1 .taken))
 
-refuse-requires : tie.Need-refuse-requires
-refuse-requires c κs = search needs
+refuse-pair-requires : tie.Need-refuse-pair-requires
+refuse-pair-requires c κs = search needs
 
 returns-2 : tie.Need-returns-2
 returns-2 c = search needs
 
 pub check-pair-spec : {M : Type 1} → statement M
-check-pair-spec = tie.close (tie.spec pair-passes-requires returns refuse-requires returns-2)
+check-pair-spec = tie.close (tie.spec pair-passes-requires returns refuse-pair-requires returns-2)

@@ -1,6 +1,11 @@
--- `entry::add`: what is refused leaves the target untouched, and what passes the checks is of good form, so the sum reports. Assumes nothing.
+-- `entry::add`: what is refused leaves the target untouched; what passes the checks is of good form, so that a look at the first column tells the sum, or the walk
+-- reports it. Assumes nothing.
+use mathlib.Core.Path.{refl}
+use native.Mathlib.Omega.{arith}
 use borrow.Author.Needs.{needs}
-use Rattle.sums.proofs.Entries.{pair-ready, pair-refused, pair-reported}
+use borrow.Author.Tests.{not-true}
+use Rattle.sums.proofs.AtOnce.{one-limb, looked-reported, copies-ready, copies-reported}
+use Rattle.sums.proofs.Entries.{kind-told, pair-ready, pair-refused, pair-reported}
 use Rattle.sums.proofs.entry.add.Statement.{statement}
 use Rattle.sums.proofs.entry.add.Tie as tie
 
@@ -13,20 +18,66 @@ refused-requires c κs = search needs
 returns : tie.Need-returns
 returns c = pair-refused _ _ _ _ _ _ _ _ (c .before .before .before .check-pair .ensures) (c .before .if1 .taken) (c .refused .ensures)
 
-summed-requires : tie.Need-summed-requires
-summed-requires c κs =
-    let k = c .before .before .before in
-    pair-ready _ _ _ _ _ _ (k .before .before .before .before .args .target .now) _ (k .check-pair .ensures) (c .before .if1 .left) (λ i. k .before .before .before .shared-slice-known .given i .fits) (λ i. k .before .before .shared-slice-known2 .given i .fits)
+is-narrow-requires : tie.Need-is-narrow-requires
+is-narrow-requires c κs = search needs
+
+look-requires : tie.Need-look-requires
+look-requires c κs =
+    let g = pair-ready _ _ _ _ _ _ (c .before .before .before .before .before .before .before .before .args .target .now) _ (c .before .before .before .before .check-pair .ensures) (c .before .before .if1 .left) (λ i. c .before .before .before .before .before .before .before .shared-slice-known .given i .fits) (λ i. c .before .before .before .before .before .before .shared-slice-known2 .given i .fits) in
+    let t = c .before .is-narrow .ensures (c .if2 .taken) in
+    (g .1, kind-told _ _ refl (t .1), g .2, kind-told _ _ refl (t .2), g .3 .least, t .0)
+
+slice-write-target : tie.Need-slice-write-target
+slice-write-target c =
+    let g = pair-ready _ _ _ _ _ _ (c .before .before .before .before .before .before .before .before .before .before .before .before .before .args .target .now) _ (c .before .before .before .before .before .before .before .before .before .check-pair .ensures) (c .before .before .before .before .before .before .before .if1 .left) (λ i. c .before .before .before .before .before .before .before .before .before .before .before .before .shared-slice-known .given i .fits) (λ i. c .before .before .before .before .before .before .before .before .before .before .before .shared-slice-known2 .given i .fits) in
+    let t = c .before .before .before .before .before .before .is-narrow .ensures (c .before .before .before .before .before .if2 .taken) in
+    omega (arith, one-limb _ _ (g .3) (t .0))
+
+answered-requires : tie.Need-answered-requires
+answered-requires c κs = search needs
 
 same-length : tie.Need-same-length
 same-length c = search needs
 
 returns-2 : tie.Need-returns-2
 returns-2 c =
-    let k = c .before .before in
-    pair-reported _ _ _ _ _ _ _ _ (k .before .before .before .before .check-pair .ensures) (k .before .before .if1 .left) (k .summed .ensures)
+    let g = pair-ready _ _ _ _ _ _ (c .before .before .before .before .before .before .before .before .before .before .before .before .before .before .args .target .now) _ (c .before .before .before .before .before .before .before .before .before .before .check-pair .ensures) (c .before .before .before .before .before .before .before .before .if1 .left) (λ i. c .before .before .before .before .before .before .before .before .before .before .before .before .before .shared-slice-known .given i .fits) (λ i. c .before .before .before .before .before .before .before .before .before .before .before .before .shared-slice-known2 .given i .fits) in
+    let t = c .before .before .before .before .before .before .before .is-narrow .ensures (c .before .before .before .before .before .before .if2 .taken) in
+    pair-reported _ _ _ _ _ _ _ _ (c .before .before .before .before .before .before .before .before .before .before .check-pair .ensures) (c .before .before .before .before .before .before .before .before .if1 .left)
+    (looked-reported _ _ _ _ (c .before .before .before .before .before .look .result) (c .before .before .before .before .before .before .before .before .before .before .before .before .before .before .args .target .now) (g .3) (t .0) (c .before .before .before .before .before .look .ensures (not-true _ (c .before .before .if3 .taken))) (c .answered .ensures))
+
+copied-requires : tie.Need-copied-requires
+copied-requires c κs = search needs
+
+copied-requires-2 : tie.Need-copied-requires-2
+copied-requires-2 c κs = search needs
+
+summed-requires : tie.Need-summed-requires
+summed-requires c κs =
+    copies-ready _ _ _ _ (c .before .before .copied .ensures) (c .before .copied2 .ensures) _ (pair-ready _ _ _ _ _ _ (c .before .before .before .before .before .before .before .before .before .before .before .args .target .now) _ (c .before .before .before .before .before .before .before .check-pair .ensures) (c .before .before .before .before .before .if1 .left) (λ i. c .before .before .before .before .before .before .before .before .before .before .shared-slice-known .given i .fits) (λ i. c .before .before .before .before .before .before .before .before .before .shared-slice-known2 .given i .fits))
+
+same-length-2 : tie.Need-same-length-2
+same-length-2 c = search needs
+
+returns-3 : tie.Need-returns-3
+returns-3 c =
+    pair-reported _ _ _ _ _ _ _ _ (c .before .before .before .before .before .before .before .before .before .before .check-pair .ensures) (c .before .before .before .before .before .before .before .before .if1 .left) (copies-reported _ _ _ _ (c .before .before .before .before .before .copied .ensures) (c .before .before .before .before .copied2 .ensures) _ _ (c .before .before .summed .ensures))
 
 pub add-spec : {M : Type 1} → statement M
 add-spec =
     tie.close
-    (tie.spec check-pair-requires refused-requires returns summed-requires same-length returns-2)
+    (tie.spec
+    check-pair-requires
+    refused-requires
+    returns
+    is-narrow-requires
+    look-requires
+    slice-write-target
+    answered-requires
+    same-length
+    returns-2
+    copied-requires
+    copied-requires-2
+    summed-requires
+    same-length-2
+    returns-3)

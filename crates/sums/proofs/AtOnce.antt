@@ -1,0 +1,70 @@
+-- A sum that its first column fixes: what a look at the operands tells is what is reported. Assumes nothing.
+use mathlib.Core.Path.{_≡_, refl, sym, ap, _∙_}
+use mathlib.Core.Bool.{Bool, true, false, not, _&&_, true≢false}
+use mathlib.Core.List.{List, [], _∷_}
+use Prim.Native.Nat.{ℕ, _+_, _/_, _≤_, _<_}
+use native.Mathlib.Omega.{arith}
+use borrow.Author.Tests.{leb-true}
+use lib.Dec.{leb}
+use lib.ListN.{length, set}
+use Rattle.numbers.specs.Limits.{limbsFor}
+use Rattle.numbers.specs.Operand.{Operand, WellFormed}
+use Rattle.numbers.proofs.Limits.{two-digits}
+use Rattle.rounding.specs.Mode.{Mode, modeOf}
+use Rattle.rounding.specs.Answer.{Answer}
+use Rattle.rounding.specs.Sum.{add}
+use Rattle.depth.specs.Depth.{plus, result}
+use Rattle.checks.specs.declared.Number.{Number}
+use Rattle.checks.specs.Number.{operandOf}
+use Rattle.place.specs.Placed.{placedOf}
+use Rattle.descent.specs.Ready.{Room}
+use Rattle.ending.specs.Finishing.{Signed}
+use Rattle.ending.proofs.RegularEnd.{deep-enough}
+use Rattle.narrow.specs.declared.looking.Sight.{Sight}
+use Rattle.narrow.specs.Looked.{Looked}
+use Rattle.sums.specs.declared.report.Sum.{Sum}
+use Rattle.sums.specs.Summed.{sumOf, Reported}
+use Rattle.sums.proofs.RegularReport.{sum-depth}
+
+-- the three tests
+pub narrow-told : (p : ℕ) {a b u v : Bool} → a ≡ u → b ≡ v → ((leb p 62 && not a) && not b) ≡ true → (p ≤ 62) × (u ≡ false) × (v ≡ false)
+narrow-told p {a} {b} e f h = let t = go (leb p 62) a b h in (leb-true p 62 (t .0), sym e ∙ t .1, sym f ∙ t .2)
+  where
+    go : (c a b : Bool) → ((c && not a) && not b) ≡ true → (c ≡ true) × (a ≡ false) × (b ≡ false)
+    go true false false h = (refl, refl, refl)
+    go true false true h = absurd (true≢false (sym h))
+    go true true b h = absurd (true≢false (sym h))
+    go false a b h = absurd (true≢false (sym h))
+
+-- so few digits take one limb
+pub one-limb : (p n : ℕ) → Room p n → p ≤ 62 → n ≡ 1
+unfolding limbsFor
+one-limb p n room h = let a : n ≡ (p + 63) / 64 = room .count in omega (arith, two-digits, room .least)
+
+one-left : (l : List ℕ) (v : ℕ) → length l ≡ 1 → set l 0 v ≡ v ∷ []
+one-left [] v e = absurd (omega arith)
+one-left (x ∷ []) v e = refl
+one-left (x ∷ y ∷ l) v e = absurd (omega arith)
+
+pub looked-reported : (o : Mode) (p : ℕ) (x y : Operand) (sight : Sight) (entry : List ℕ) {s : Sum} → Room p (length entry) → p ≤ 62 → Looked o p x y sight
+    → ((a : Answer) → Signed (sight .negative) a → sight .seen .placed ≡ placedOf a → s ≡ sumOf a p 1 (sight .first) (sight .second))
+    → Reported plus o p x y (set entry 0 (sight .seen .limb)) s
+unfolding result
+looked-reported o p x y sight entry {s} room h l told =
+    let e : s ≡ sumOf (add o p x y) p 1 (sight .first) (sight .second) = told (add o p x y) (l .signed) (l .left .told) in
+    let k : s .depth ≡ 1 = ap (λ (q : Sum). q .depth) e ∙ sum-depth (add o p x y) p 1 (sight .first) (sight .second) in
+    record {
+      depth = rw k (l .depth);
+      bounded = rw k (omega (arith, deep-enough));
+      answer = e ∙ rw (l .first, l .second, k) refl;
+      target = one-left entry (sight .seen .limb) (one-limb p (length entry) room h) ∙ l .left .limbs;
+    }
+
+-- ---- copies of the operands
+
+module _ {a b x y : Number} (mode p : ℕ) (xl yl : List ℕ) (i : a ≡ x) (j : b ≡ y) where
+  pub copies-ready : (n : ℕ) → (mode ≤ 3) × WellFormed (operandOf x xl) × WellFormed (operandOf y yl) × Room p n → (mode ≤ 3) × WellFormed (operandOf a xl) × WellFormed (operandOf b yl) × Room p n
+  copies-ready n h = rw (i, j) h
+
+  pub copies-reported : (exit : List ℕ) (s : Sum) → Reported plus (modeOf mode) p (operandOf a xl) (operandOf b yl) exit s → Reported plus (modeOf mode) p (operandOf x xl) (operandOf y yl) exit s
+  copies-reported exit s h = rw (i, j) at h
