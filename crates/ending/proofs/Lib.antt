@@ -1,3 +1,4 @@
 pub mod Finishing
 pub mod Parts
 pub mod RegularEnd
+pub mod Handed

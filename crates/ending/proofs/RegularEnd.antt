@@ -55,7 +55,7 @@ room-few : (p n : ℕ) → Room p n → n ≤ 64
 unfolding mostPrecision limbsFor
 room-few p n r = let a : p ≤ 4096 = r .most in let b : n ≡ (p + 63) / 64 = r .count in omega arith
 
-rounded-signed : (w : Way) (p s : ℕ) (n : Bool) (m : ℕ) → Signed n (rounded w p s n m)
+pub rounded-signed : (w : Way) (p s : ℕ) (n : Bool) (m : ℕ) → Signed n (rounded w p s n m)
 unfolding rounded ranged
 rounded-signed w p s n m =
     let c = chosen w p m in

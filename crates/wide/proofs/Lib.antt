@@ -1,2 +1,3 @@
 pub mod Unread
 pub mod FullTarget
+pub mod InOrder
