@@ -14,7 +14,7 @@ use lib.Ieee.Digits.{size-le}
 use Rattle.limb.specs.Value.{valueOf, valueIn}
 use Rattle.limb.specs.Carry.{bit}
 use Rattle.limb.proofs.Value.{value-split, value-drop, base-pow}
-use Rattle.numbers.specs.Limits.{leastPrecision, mostPrecision, limbsFor}
+use Rattle.numbers.specs.Limits.{leastPrecision, mostPrecision, leastExponent, mostExponent, limbsFor}
 use Rattle.numbers.specs.Operand.{Operand}
 use Rattle.numbers.proofs.Digits.{precision-two}
 use Rattle.rounding.specs.Mode.{Mode, Way, way}
@@ -35,7 +35,7 @@ use Rattle.settle.specs.declared.rows.Way as code
 use Rattle.settle.specs.declared.rows.Row.the-variants.{Exact, Plus, Minus, Hole}
 use Rattle.settle.proofs.Ranges.{not-large, not-small}
 use Rattle.settle.proofs.Units.{and-false}
-use Rattle.bridge.specs.Verdict.{pairOf, Leads, readSum, settledBy, refusedBy, testBy, verdict, inner?, isFar, openDigits}
+use Rattle.bridge.specs.Verdict.{pairOf, Ordered, Leads, readSum, settledBy, refusedBy, testBy, verdict, inner?, isFar, openDigits}
 use Rattle.bridge.proofs.Decision.{decision}
 use Rattle.bridge.proofs.Told.{pair-first, pair-second, pair-top, alone-second, alone-same}
 use Rattle.bridge.proofs.Answers.{settled-digits, sum-pos}
@@ -77,6 +77,32 @@ inner-first s k h =
     (inner-cond (eqb (s .second) 0) (seenRow s c) (cond (leb c (s .gap)) (cond (s .same) (Plus true (ltb (s .gap) (s .first)) true) (Minus (not (eqb (s .first) (c + 1) && eqb (s .gap) c)))) (seenRow s c)) (seen-row s c)
     (inner-cond (leb c (s .gap)) (cond (s .same) (Plus true (ltb (s .gap) (s .first)) true) (Minus (not (eqb (s .first) (c + 1) && eqb (s .gap) c)))) (seenRow s c)
     (far-inner (s .same) (ltb (s .gap) (s .first)) (not (eqb (s .first) (c + 1) && eqb (s .gap) c))) (seen-row s c)))
+
+-- ---- where no refusal is near, none is found
+
+module _ (o : Mode) (p : ℕ) (P : 0 < p) (x y : Operand) (k : ℕ) (d : Ordered x y) (K : 1 ≤ k) (lead : Leads x y k) (above : 64 * k ≤ pairOf x y .top)
+    (high : pairOf x y .same ≡ true → ltb mostExponent (pairOf x y .top + 2) ≡ false) (low : pairOf x y .same ≡ false → ltb (pairOf x y .top + 1) (leastExponent + 64 * k) ≡ false) where
+  abbrev toward : Way
+  toward = way o (x .negative)
+
+  abbrev sum-read : ℕ
+  sum-read = readSum x y k
+
+  pub unrefused : refusedBy toward p (pairOf x y) k sum-read ≡ false
+  unfolding refusedBy
+  unrefused = go (pairOf x y .same) refl
+    where
+      sum : pairOf x y .same ≡ true → sum-read < 2 * 2 ^ (64 * k)
+      sum e = subst (λ (m : ℕ). readSum x y m < 2 * 2 ^ (64 * m)) back (sum-below x y (k - 1) d e)
+        where
+          back : suc (k - 1) ≡ k
+          back = omega (arith, K)
+
+      go : (b : Bool) → pairOf x y .same ≡ b
+          → cond b (large? toward p (pairOf x y .top - 64 * k) sum-read (isFar (pairOf x y) k) (isFar (pairOf x y) k && eqb (pairOf x y .gap) (64 * k)))
+          (not (isFar (pairOf x y) k) && small? toward p (pairOf x y .top - 64 * k) sum-read (ltb 0 (openDigits (pairOf x y) k)) (openDigits (pairOf x y) k)) ≡ false
+      go true e = not-large toward p (pairOf x y .top) k sum-read _ _ above (high e) (sum e)
+      go false e = rw (not-small toward p (pairOf x y .top) k sum-read (ltb 0 (openDigits (pairOf x y) k)) (openDigits (pairOf x y) k) above (low e) (sum-pos o p P x y k d K lead)) (and-false (not (isFar (pairOf x y) k)))
 
 -- ---- one column fewer than fill the target fixes nothing
 
@@ -156,27 +182,14 @@ module _ (o : Mode) (p : ℕ) (x y : Operand) (from : ℕ) (course : Course x y 
             let small : D < 2 ^ (64 * i) = rw (difference-is x y k (course .ordered) k e) (near-less (readTo k 0 (x .limbs)) (readTo k (pairOf x y .gap) (y .limbs)) (2 ^ (64 * i)) (pow-pos (64 * i)) alike) in
             omega (arith, c, size-le D (64 * i) small, short)
 
-    unrefused : refusedBy w p (pairOf x y) k D ≡ false
-    unfolding refusedBy
-    unrefused = go (pairOf x y .same) refl
-      where
-        sum : pairOf x y .same ≡ true → D < 2 * 2 ^ (64 * k)
-        sum e = subst (λ (m : ℕ). readSum x y m < 2 * 2 ^ (64 * m)) back (sum-below x y (k - 1) (course .ordered) e)
-          where
-            back : suc (k - 1) ≡ k
-            back = omega (arith, K)
-
-        go : (b : Bool) → pairOf x y .same ≡ b
-            → cond b (large? w p (pairOf x y .top - 64 * k) D (isFar (pairOf x y) k) (isFar (pairOf x y) k && eqb (pairOf x y .gap) (64 * k)))
-            (not (isFar (pairOf x y) k) && small? w p (pairOf x y .top - 64 * k) D (ltb 0 (openDigits (pairOf x y) k)) (openDigits (pairOf x y) k)) ≡ false
-        go true e = not-large w p (pairOf x y .top) k D _ _ above (prompt .high e) (sum e)
-        go false e = rw (not-small w p (pairOf x y .top) k D (ltb 0 (openDigits (pairOf x y) k)) (openDigits (pairOf x y) k) above (rw last at (prompt .low e)) (sum-pos o p some-p x y k (course .ordered) K lead)) (and-false (not (isFar (pairOf x y) k)))
+    calm : refusedBy w p (pairOf x y) k D ≡ false
+    calm = unrefused o p some-p x y k (course .ordered) K lead above (prompt .high) (λ e. rw last at (prompt .low e))
 
     by-row : (row : Row) → inner? row ≡ true → (settledBy w p D row ≡ true → ⊥) → verdict o p x y k row ≡ false
     unfolding verdict testBy inner?
     by-row Exact h u = absurd (true≢false (sym h))
-    by-row (Plus least next most) h u = or-false _ _ u unrefused
-    by-row (Minus most) h u = or-false _ _ u unrefused
+    by-row (Plus least next most) h u = or-false _ _ u calm
+    by-row (Minus most) h u = or-false _ _ u calm
     by-row Hole h u = absurd (true≢false (sym h))
 
     open-inside : decideAt o p x y k ≡ false

@@ -1,1 +1,2 @@
 pub mod Leaping
+pub mod Guarding

@@ -1,1 +1,2 @@
 pub mod Leap
+pub mod Runs

@@ -13,6 +13,11 @@ ghost use lib.ListN.{length};
 ghost use Rattle.run.specs.LowLimbs.{LowLimbs};
 ghost use Rattle.walk.specs.Column.{readTo};
 ghost use Rattle.leap.specs.Leap.{Within, Leap, SumColumns, DifferenceColumns, Leapt, leaptTo};
+
+mod guarded; // guarded.rt: one column more than fill the target
+
+pub use guarded::Guarded;
+pub use guarded::guarded_columns;
 use walk::Tail;
 use walk::Window;
 

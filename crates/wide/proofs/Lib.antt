@@ -1,3 +1,5 @@
 pub mod Unread
 pub mod FullTarget
+pub mod Level
+pub mod GuardBelow
 pub mod InOrder

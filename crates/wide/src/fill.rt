@@ -5,6 +5,7 @@ ghost use lib.ListN.{length};
 ghost use Rattle.settle.specs.Rows.{Modest};
 ghost use Rattle.descent.specs.Ready.{Room};
 ghost use Rattle.wide.specs.Filling.{Offered, Fills};
+ghost use Rattle.wide.specs.Guarding.{Spent};
 use crate::below::is_hollow;
 use crate::below::is_read;
 use crate::exactly::fill_exactly;
@@ -37,6 +38,7 @@ pub fn none() -> Filled
 // Whether a column below the target is needed: it has no digit to spare, and n columns leave some unread.
 fn needs_guard(p: u64, pair: Pair, n: u64) -> bool
     requires { ⌜ Modest pair n ⌝ }
+    ensures { λ r. ⌜ (r ≡ true → Spent p pair n) ⌝ }
 {
     if p != 64 * n {
         return false;

@@ -25,7 +25,7 @@ needs-guard-requires : tie.Need-needs-guard-requires
 needs-guard-requires c κs = let s = c .before .before .before .before .before in offered-modest (s .args .p) _ (s .args .first .now) (s .args .second .now) (s .pre .1) _ _ (s .pre .0) (near _)
 
 fill-guarded-requires : tie.Need-fill-guarded-requires
-fill-guarded-requires c κs = search needs
+fill-guarded-requires c κs = let s = c .before .before .before .before .before .before .before .before in (s .pre .0, s .pre .1, c .before .before .needs-guard .ensures (c .before .if2 .taken))
 
 same-length-2 : tie.Need-same-length-2
 same-length-2 c = search needs
