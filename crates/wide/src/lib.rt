@@ -4,3 +4,8 @@ mod below; // below.rt: what lies below the columns read
 mod exactly; // exactly.rt: the columns that fill the target fix the answer
 mod guarded; // guarded.rt: one column more fixes it
 mod hollow; // hollow.rt: the second operand lies below all that is read of the first
+mod attempting; // attempting.rt: two regular numbers in any order
+
+pub use attempting::Wide;
+pub use attempting::attempt;
+pub use attempting::used;

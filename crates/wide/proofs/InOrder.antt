@@ -1,0 +1,306 @@
+-- Two regular numbers in any order: exponents and top limbs tell which comes first, and what fills the target is rounded to their sum. Assumes nothing.
+use mathlib.Core.Path.{_≡_, refl, sym, ap, _∙_, subst}
+use mathlib.Core.Logic.{inl, inr}
+use mathlib.Core.Bool.{Bool, true, false, not, cond, _&&_, _||_, Bool·beq, true≢false}
+use mathlib.Core.List.{List}
+use Prim.Native.Nat.{ℕ, _+_, _-_, _*_, _/_, _%_, _^_, _≤_, _<_, min, zero-le}
+use native.Mathlib.Nat.{mod-eq-of-lt}
+use native.Mathlib.Omega.{arith}
+use borrow.Author.Tests.{lt-ltb, le-ltb, le-leb, lt-leb, eq-eqb, eqb-true, ltb-true}
+use lib.Dec.{ltb, leb, eqb}
+use lib.ListN.{length, getD}
+use Rattle.limb.specs.Value.{Below}
+use Rattle.numbers.specs.Limits.{counted, leastPrecision, mostPrecision, mostExponent, limbsFor}
+use Rattle.numbers.specs.Operand.{Operand, WellFormed}
+use Rattle.numbers.proofs.Limits.{two-digits, limbs-hold}
+use Rattle.rounding.specs.Mode.{Mode, modeOf, way}
+use Rattle.rounding.specs.Answer.{Answer, rounded}
+use Rattle.rounding.specs.Sum.{add}
+use Rattle.rounding.proofs.Order.{le-or-lt}
+use Rattle.rounding.proofs.Zeros.{add-commutes}
+use Rattle.depth.specs.Columns.{topExponent, limbsUsed}
+use Rattle.depth.specs.Depth.{plus, Depth}
+use Rattle.decide.proofs.Decision.{depth-decided}
+use Rattle.checks.specs.declared.Number.{Number}
+use Rattle.checks.specs.Number.{operandOf}
+use Rattle.place.specs.declared.Placed.{Placed}
+use Rattle.place.specs.Placed.{runNumber, runAnswer, runRule, placedOf, limbsAfter}
+use Rattle.place.specs.Rounded.{roundedPlaced, roundedLimbs}
+use Rattle.place.proofs.Answer.{placed-passed, limbs-passed}
+use Rattle.place.proofs.Rules.{rule-none}
+use Rattle.walk.specs.Column.{readTo, columnOf, limbBelow}
+use Rattle.walk.proofs.Reading.{column-whole}
+use Rattle.settle.specs.declared.rows.Pair.{Pair}
+use Rattle.bridge.specs.Verdict.{pairOf, Ordered}
+use Rattle.bridge.proofs.Read.{read-below, read-none}
+use Rattle.bridge.proofs.Told.{pair-gap, pair-same, pair-top, top-is}
+use Rattle.bridge.proofs.Decision.{leads}
+use Rattle.bridge.proofs.Covered.{columns-above}
+use Rattle.bridge.proofs.Exchange.{top-exchange, deciding-exchange}
+use Rattle.descent.specs.Ready.{Room}
+use Rattle.descent.specs.Course.{Course}
+use Rattle.ending.specs.Finishing.{Left, Signed}
+use Rattle.ending.proofs.Finishing.{room-pos}
+use Rattle.ending.proofs.RegularEnd.{deep-enough, not-deep, rounded-signed}
+use Rattle.ending.proofs.Handed.{ordered-pair}
+use Rattle.wide.specs.declared.fill.Filled.{Filled}
+use Rattle.wide.specs.Filling.{Holding, Offered, Rounds, Fills}
+use Rattle.wide.specs.Attempted.{usedOf, Attempted}
+
+-- ---- the limbs used
+
+module _ (k gap n : ℕ) where
+  pub used-none : 64 * k ≤ gap → 0 ≡ usedOf k gap n
+  unfolding usedOf
+  used-none h = rw (le-leb (64 * k) gap h) refl
+
+  pub used-some : gap < 64 * k → (64 * k - gap + 63) / 64 < n → (64 * k - gap + 63) / 64 ≡ usedOf k gap n
+  unfolding usedOf
+  used-some h l = rw (lt-leb (64 * k) gap h) (less ((64 * k - gap + 63) / 64) l)
+    where
+      less : (m : ℕ) → m < n → m ≡ min n m
+      less m l = omega arith
+
+  pub used-all : gap < 64 * k → n ≤ (64 * k - gap + 63) / 64 → n ≡ usedOf k gap n
+  unfolding usedOf
+  used-all h l = rw (lt-leb (64 * k) gap h) (most ((64 * k - gap + 63) / 64) l)
+    where
+      most : (m : ℕ) → n ≤ m → n ≡ min n m
+      most m l = omega arith
+
+used-is : (x : Operand) (t k gap : ℕ) → WellFormed x → x .isZero ≡ false → gap ≡ t - x .exponent → usedOf k gap (length (x .limbs)) ≡ limbsUsed t k x
+unfolding usedOf limbsUsed
+used-is x t k gap g r e = rw (r, e, g .count) refl
+
+-- the counts of two operands, in their own order and in that of the pair
+pub counted-in-order : (s : Bool) (k gap c d i j : ℕ) (xl yl : List ℕ) → c ≡ cond s gap 0 → d ≡ cond s 0 gap → i ≡ usedOf k c (length xl) → j ≡ usedOf k d (length yl)
+    → (cond s j i ≡ usedOf k 0 (length (cond s yl xl))) × (cond s i j ≡ usedOf k gap (length (cond s xl yl)))
+counted-in-order true k gap c d i j xl yl e f g h = (h ∙ ap (λ (m : ℕ). usedOf k m (length yl)) f, g ∙ ap (λ (m : ℕ). usedOf k m (length xl)) e)
+counted-in-order false k gap c d i j xl yl e f g h = (g ∙ ap (λ (m : ℕ). usedOf k m (length xl)) e, h ∙ ap (λ (m : ℕ). usedOf k m (length yl)) f)
+
+-- ---- which of two operands comes first
+
+some-limb : (x : Operand) → WellFormed x → 0 < length (x .limbs)
+some-limb x g = rw (g .count) (omega (arith, two-digits, g .least, limbs-hold (x .precision)))
+
+pub limbs-some : (x : Number) (xl : List ℕ) → WellFormed (operandOf x xl) → 0 < length xl
+unfolding operandOf
+limbs-some x xl g = some-limb (operandOf x xl) g
+
+-- the first column of an operand that begins in it is its top limb
+read-top : (l : List ℕ) → Below (2 ^ 64) l → 0 < length l → readTo 1 0 l ≡ getD l (length l - 1) 0
+unfolding columnOf limbBelow
+read-top l h some = sym (mod-eq-of-lt (read-below 1 0 l h)) ∙ sym (column-whole l 0 0 h (omega arith) refl) ∙ rw (lt-ltb 0 (length l) some) refl
+
+module _ (x y : Operand) (g : WellFormed x) (h : WellFormed y) (r : x .isZero ≡ false) (e : y .isZero ≡ false) (order : y .exponent ≤ x .exponent)
+    (tops : y .exponent ≡ x .exponent → Bool·beq (x .negative) (y .negative) ≡ false → getD (y .limbs) (length (y .limbs) - 1) 0 < getD (x .limbs) (length (x .limbs) - 1) 0) where
+  ordered : Ordered x y
+  ordered = record { first = g; second = h; regular = r; order = λ f. order }
+
+  unlike : pairOf x y .same ≡ false → Bool·beq (x .negative) (y .negative) ≡ false
+  unlike f = sym (pair-same x y e) ∙ f
+
+  level : y .exponent ≡ x .exponent → pairOf x y .same ≡ false → readTo 1 (pairOf x y .gap) (y .limbs) < readTo 1 0 (x .limbs)
+  level q f =
+      let z : pairOf x y .gap ≡ 0 = pair-gap x y e ∙ none (x .exponent) (y .exponent) q in
+      rw (z, read-top (y .limbs) (h .limb) (some-limb y h), read-top (x .limbs) (g .limb) (some-limb x g)) (tops q (unlike f))
+    where
+      none : (m n : ℕ) → n ≡ m → m - n ≡ 0
+      none m n i = omega arith
+
+  course-first : Course x y 0
+  course-first = record {
+    ordered = ordered;
+    sum = λ f. refl;
+    level = λ f. read-none 0 (pairOf x y .gap) (y .limbs) (h .limb) zero-le ∙ sym (read-none 0 0 (x .limbs) (g .limb) zero-le);
+    larger = λ f. elim (le-or-lt (x .exponent) (y .exponent)) [ inl l ↦ level (omega arith) f | inr l ↦ leads x y 1 ordered (omega arith) l f ];
+    near = zero-le;
+  }
+
+both-true : (a b : Bool) → (a && b) ≡ true → (a ≡ true) × (b ≡ true)
+both-true true b e = (refl, e)
+both-true false b e = absurd (true≢false (sym e))
+
+-- the tests that the code makes
+module _ (a b u v : ℕ) where
+  in-place : (ltb a b || (eqb a b && ltb u v)) ≡ false → (b ≤ a) × (b ≡ a → v ≤ u)
+  in-place e = elim (le-or-lt b a) [ inl h ↦ (h, λ i. top h i) | inr h ↦ absurd (over h) ]
+    where
+      over : a < b → ⊥
+      over h = let z : (ltb a b || (eqb a b && ltb u v)) ≡ true = rw (lt-ltb a b h) refl in true≢false (sym z ∙ e)
+
+      top : b ≤ a → b ≡ a → v ≤ u
+      top h i = elim (le-or-lt v u) [ inl k ↦ k | inr k ↦ absurd (no h i k) ]
+        where
+          no : b ≤ a → b ≡ a → u < v → ⊥
+          no h i k = let z : (ltb a b || (eqb a b && ltb u v)) ≡ true = rw (le-ltb a b h, eq-eqb a b (sym i), lt-ltb u v k) refl in true≢false (sym z ∙ e)
+
+  out-of-place : (ltb a b || (eqb a b && ltb u v)) ≡ true → (a ≤ b) × (a ≡ b → u < v)
+  out-of-place e = elim (le-or-lt b a) [ inl h ↦ level h | inr h ↦ (omega arith, λ i. absurd (omega arith)) ]
+    where
+      level : b ≤ a → (a ≤ b) × (a ≡ b → u < v)
+      level h =
+          let f : (eqb a b && ltb u v) ≡ true = rw (le-ltb a b h) at e in
+          let t = both-true (eqb a b) (ltb u v) f in
+          let i = eqb-true a b (t .0) in
+          (omega arith, λ j. ltb-true u v (t .1))
+
+  not-level : (same : Bool) → (not same && (eqb a b && eqb u v)) ≡ false → same ≡ false → a ≡ b → u ≡ v → ⊥
+  not-level same e s i j = let z : (not same && (eqb a b && eqb u v)) ≡ true = rw (s, eq-eqb a b i, eq-eqb u v j) refl in true≢false (sym z ∙ e)
+
+beq-turned : (a b : Bool) → Bool·beq a b ≡ Bool·beq b a
+beq-turned true true = refl
+beq-turned true false = refl
+beq-turned false true = refl
+beq-turned false false = refl
+
+module _ (x : Number) (xl : List ℕ) (y : Number) (yl : List ℕ) (gx : WellFormed (operandOf x xl)) (rx : operandOf x xl .isZero ≡ false) (gy : WellFormed (operandOf y yl)) (ry : operandOf y yl .isZero ≡ false)
+    (a b u v : ℕ) (ae : a ≡ counted (x .exponent)) (be : b ≡ counted (y .exponent)) (ue : u ≡ getD xl (length xl - 1) 0) (ve : v ≡ getD yl (length yl - 1) 0)
+    (swapped : Bool) (order : swapped ≡ (ltb a b || (eqb a b && ltb u v))) (even : Bool) (even-is : even ≡ (not (Bool·beq (x .negative) (y .negative)) && (eqb a b && eqb u v))) (apart : even ≡ false) where
+  abbrev X : Operand
+  X = operandOf x xl
+
+  abbrev Y : Operand
+  Y = operandOf y yl
+
+  straight : swapped ≡ false → Course X Y 0
+  unfolding operandOf
+  straight f =
+      let t = in-place a b u v (sym order ∙ f) in
+      course-first X Y gx gy rx ry (rw (← ae, ← be) (t .0)) (λ q n. rw (← ue, ← ve) (strict (t .1 (be ∙ q ∙ sym ae)) (not-level a b u v (Bool·beq (x .negative) (y .negative)) (sym even-is ∙ apart) n (ae ∙ sym q ∙ sym be))))
+    where
+      strict : v ≤ u → (u ≡ v → ⊥) → v < u
+      strict h n = elim (le-or-lt u v) [ inl k ↦ absurd (n (omega arith)) | inr k ↦ k ]
+
+  turned : swapped ≡ true → Course Y X 0
+  unfolding operandOf
+  turned f = let t = out-of-place a b u v (sym order ∙ f) in course-first Y X gy gx ry rx (rw (← ae, ← be) (t .0)) (λ q n. rw (← ue, ← ve) (t .1 (ae ∙ q ∙ sym be)))
+
+  module _ (t l m n : ℕ) (te : t ≡ cond swapped b a) (le : l ≡ cond swapped a b) (me : m ≡ cond swapped (y .precision) (x .precision)) (ne : n ≡ cond swapped (x .precision) (y .precision)) where
+    pub gap-some : l ≤ t
+    gap-some = go swapped refl
+      where
+        go : (s : Bool) → swapped ≡ s → l ≤ t
+        go true f = rw (te, le, f) (out-of-place a b u v (sym order ∙ f) .0)
+        go false f = rw (te, le, f) (in-place a b u v (sym order ∙ f) .0)
+
+    abbrev pub pair : Pair
+    pair = record { same = Bool·beq (x .negative) (y .negative); first = m; second = n; gap = t - l; top = t }
+
+    pub holding : Holding (cond swapped Y X) (cond swapped X Y) pair (cond swapped yl xl) (cond swapped xl yl)
+    unfolding operandOf
+    holding = go swapped refl
+      where
+        go : (s : Bool) → swapped ≡ s → Holding (cond s Y X) (cond s X Y) pair (cond s yl xl) (cond s xl yl)
+        go true f = record { course = turned f; regular = rx; pair-is = rw (te, le, me, ne, f, beq-turned (x .negative) (y .negative)) (ordered-pair y yl x xl b a rx be ae); first-is = refl; second-is = refl }
+        go false f = record { course = straight f; regular = ry; pair-is = rw (te, le, me, ne, f) (ordered-pair x xl y yl a b ry ae be); first-is = refl; second-is = refl }
+
+    pub offered : Offered pair (cond swapped yl xl) (cond swapped xl yl)
+    offered = record { larger = cond swapped Y X; other = cond swapped X Y; holding = holding }
+
+  pub sign-told : (negative : Bool) → negative ≡ cond swapped (y .negative) (x .negative) → negative ≡ cond swapped Y X .negative
+  unfolding operandOf
+  sign-told negative e = e ∙ go swapped
+    where
+      go : (s : Bool) → cond s (y .negative) (x .negative) ≡ cond s Y X .negative
+      go true = refl
+      go false = refl
+
+-- ---- what is told of them
+
+pub attempted-turned : (o : Mode) (p : ℕ) → 0 < p → (x y : Operand) → x .isZero ≡ false → y .isZero ≡ false → (exit : List ℕ) (n : Bool) (placed : Placed) (k i j : ℕ)
+    → Attempted o p y x exit n placed k i j → Attempted o p x y exit n placed k j i
+attempted-turned o p P x y r e exit n placed k i j t =
+    let some : (x .isZero && y .isZero) ≡ false = rw r refl in
+    let others : (y .isZero && x .isZero) ≡ false = rw e refl in
+    let same : add o p y x ≡ add o p x y = add-commutes o p y x P in
+    let top : topExponent y x ≡ topExponent x y = sym (top-exchange x y some) in
+    record {
+      decides = record { zeros = λ h. absurd (true≢false (sym h ∙ some)); deciding = λ h. deciding-exchange o p P x y some k (t .decides .deciding others) };
+      bounded = t .bounded;
+      left = subst (λ (a : Answer). Left p a exit placed) same (t .left);
+      signed = subst (λ (a : Answer). Signed n a) same (t .signed);
+      first-used = t .second-used ∙ ap (λ (m : ℕ). limbsUsed m k x) top;
+      second-used = t .first-used ∙ ap (λ (m : ℕ). limbsUsed m k y) top;
+    }
+
+pub attempted-told : (o : Mode) (p m : ℕ) → Room p m → (x y : Operand) → x .isZero ≡ false → y .isZero ≡ false → (s : Bool) (exit : List ℕ) (n : Bool) (placed : Placed) (k i j : ℕ)
+    → Attempted o p (cond s y x) (cond s x y) exit n placed k (cond s j i) (cond s i j) → Attempted o p x y exit n placed k i j
+attempted-told o p m room x y r e true exit n placed k i j t = attempted-turned o p (room-pos p m room) x y r e exit n placed k j i t
+attempted-told o p m room x y r e false exit n placed k i j t = t
+
+-- ---- what fills the target is rounded
+
+module _ (mode p : ℕ) (pair : Pair) (first second t : List ℕ) (f : Filled) (room : Room p (length t)) (fills : Fills p pair first second t f) (closed : f .open ≡ false)
+    (z w : Operand) (h : Holding z w pair first second) where
+  abbrev o : Mode
+  o = modeOf mode
+
+  abbrev unit : ℕ
+  unit = pair .top - 64 * (length t + 1)
+
+  abbrev d : Ordered z w
+  d = h .course .ordered
+
+  rounds : Rounds o p z w t (f .carry) (f .guard) (f .more) (f .depth)
+  rounds = fills closed o z w h
+
+  top-told : pair .top ≡ z .exponent
+  top-told = ap (λ (s : Pair). s .top) (h .pair-is) ∙ pair-top z w
+
+  above : 64 * (length t + 1) + 1 ≤ z .exponent
+  unfolding limbsFor mostPrecision
+  above = columns-above z (d .first) (d .regular) (length t + 1) (omega (arith, room .count, room .most, deep-enough))
+
+  pub unit-room : 64 * (length t + 1) ≤ pair .top
+  unit-room = omega (arith, above, top-told)
+
+  pub few : f .depth ≤ 2 ^ 20
+  few = omega (arith, rounds .near, not-deep)
+
+  pub fit : runRule p (f .carry) t unit ≡ 0
+  fit = sym (rule-none p (f .carry) t unit (rw (le-leb leastPrecision p (room .least), le-leb p mostPrecision (room .most)) refl) (eq-eqb (length t) (limbsFor p) (room .count)) (rw (lt-ltb 0 unit positive, le-leb unit (2 * mostExponent) near) refl) (led (f .carry) refl))
+    where
+      positive : 0 < unit
+      positive = omega (arith, above, top-told)
+
+      near : unit ≤ 2 * mostExponent
+      near = omega (arith, d .first .regular (d .regular) .most, top-told)
+
+      led : (c : Bool) → f .carry ≡ c → (c || ltb 0 (getD t (length t - 1) 0)) ≡ true
+      led true e = refl
+      led false e = lt-ltb 0 (getD t (length t - 1) 0) (rounds .led e)
+
+  module _ (negative : Bool) (sign : negative ≡ z .negative) where
+    run-is : runAnswer mode p negative unit (runNumber (f .carry) t (f .guard) (f .more)) ≡ add o p z w
+    unfolding runAnswer
+    run-is = rw (sign, top-told) (sym (rounds .answer))
+
+    pub in-order-told : {exit : List ℕ} {placed : Placed} {i j : ℕ} → placed ≡ roundedPlaced mode p negative unit (f .carry) t (f .guard) (f .more) → exit ≡ roundedLimbs mode p negative unit (f .carry) t (f .guard) (f .more)
+        → (i ≡ usedOf (f .depth) 0 (length first)) × (j ≡ usedOf (f .depth) (pair .gap) (length second)) → Attempted o p z w exit negative placed (f .depth) i j
+    in-order-told {exit} {placed} {i} {j} a b c =
+        let P = room-pos p (length t) room in
+        let top : topExponent z w ≡ z .exponent = top-is o p P z w 1 d (omega arith) in
+        record {
+          decides = record { zeros = λ e. absurd (true≢false (sym e ∙ rw (d .regular) refl)); deciding = λ e. depth-decided o p P z w (d .first) (d .second) (f .depth) (rounds .some) (rounds .fixed) (rounds .first) };
+          bounded = rounds .near;
+          left = record { told = a ∙ placed-passed mode p negative unit (f .carry) t (f .guard) (f .more) fit ∙ ap placedOf run-is; limbs = b ∙ limbs-passed mode p negative unit (f .carry) t (f .guard) (f .more) fit ∙ ap (limbsAfter p) run-is };
+          signed = rw (sign, rounds .answer) (rounded-signed _ _ _ _ _);
+          first-used = c .0 ∙ ap (λ (l : List ℕ). usedOf (f .depth) 0 (length l)) (h .first-is) ∙ used-is z (topExponent z w) (f .depth) 0 (d .first) (d .regular) (rw top (apart (z .exponent)));
+          second-used = c .1 ∙ ap (λ (l : List ℕ). usedOf (f .depth) (pair .gap) (length l)) (h .second-is) ∙ used-is w (topExponent z w) (f .depth) (pair .gap) (d .second) (h .regular) (rw top (ap (λ (s : Pair). s .gap) (h .pair-is) ∙ pair-gap z w (h .regular)));
+        }
+      where
+        apart : (n : ℕ) → 0 ≡ n - n
+        apart n = omega arith
+
+-- ---- as the code finds it
+
+pub offered-as : (c : Bool) {s : Bool} {pair : Pair} (xl yl : List ℕ) → s ≡ c → Offered pair (cond s yl xl) (cond s xl yl) → Offered pair (cond c yl xl) (cond c xl yl)
+offered-as c {s} {pair} xl yl e o = subst (λ (b : Bool). Offered pair (cond b yl xl) (cond b xl yl)) e o
+
+pub fills-as : (c : Bool) {s : Bool} {p : ℕ} {pair : Pair} (xl yl : List ℕ) {t : List ℕ} {f : Filled} → s ≡ c → Fills p pair (cond c yl xl) (cond c xl yl) t f → Fills p pair (cond s yl xl) (cond s xl yl) t f
+fills-as c {s} {p} {pair} xl yl {t} {f} e o = subst (λ (b : Bool). Fills p pair (cond b yl xl) (cond b xl yl) t f) (sym e) o
+
+pub limbs-weigh : (p n : ℕ) → Room p n → 64 * (n + 1) < 2 ^ 64
+unfolding limbsFor mostPrecision
+limbs-weigh p n room = omega (arith, room .count, room .most)

@@ -1,0 +1,27 @@
+-- What is told of a sum that is read at once: its depth, its answer, and the limbs used. Definitions only.
+use Prim.Native.Nat.{ℕ, _+_, _-_, _*_, _/_, _≤_, min}
+use mathlib.Core.Path.{_≡_}
+use mathlib.Core.Bool.{Bool, cond}
+use mathlib.Core.List.{List}
+use lib.Dec.{leb}
+use Rattle.numbers.specs.Operand.{Operand}
+use Rattle.rounding.specs.Mode.{Mode}
+use Rattle.rounding.specs.Sum.{add}
+use Rattle.depth.specs.Bound.{deepest}
+use Rattle.depth.specs.Columns.{topExponent, limbsUsed}
+use Rattle.depth.specs.Depth.{plus, Depth}
+use Rattle.place.specs.declared.Placed.{Placed}
+use Rattle.ending.specs.Finishing.{Left, Signed}
+
+-- the limbs used of n for a depth of k, of an operand that begins gap digits below the top
+unfoldable pub usedOf : ℕ → ℕ → ℕ → ℕ
+usedOf k gap n = cond (leb (64 * k) gap) 0 (min n ((64 * k - gap + 63) / 64))
+
+-- the answer's sign, what is told of it, and its limbs in the target; the depth, and the limbs used of each operand
+pub record Attempted (o : Mode) (p : ℕ) (x y : Operand) (exit : List ℕ) (negative : Bool) (placed : Placed) (depth first second : ℕ) : Type 0 where
+  pub decides : Depth plus o p x y depth
+  pub bounded : depth ≤ deepest
+  pub left : Left p (add o p x y) exit placed
+  pub signed : Signed negative (add o p x y)
+  pub first-used : first ≡ limbsUsed (topExponent x y) depth x
+  pub second-used : second ≡ limbsUsed (topExponent x y) depth y
