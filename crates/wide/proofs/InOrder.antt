@@ -28,8 +28,8 @@ use Rattle.place.specs.Placed.{runNumber, runAnswer, runRule, placedOf, limbsAf
 use Rattle.place.specs.Rounded.{roundedPlaced, roundedLimbs}
 use Rattle.place.proofs.Answer.{placed-passed, limbs-passed}
 use Rattle.place.proofs.Rules.{rule-none}
-use Rattle.walk.specs.Column.{readTo, columnOf, limbBelow}
-use Rattle.walk.proofs.Reading.{column-whole}
+use Rattle.columns.specs.Column.{readTo, columnOf, limbBelow}
+use Rattle.columns.proofs.Reading.{column-whole}
 use Rattle.settle.specs.declared.rows.Pair.{Pair}
 use Rattle.bridge.specs.Verdict.{pairOf, Ordered}
 use Rattle.bridge.proofs.Read.{read-below, read-none}
