@@ -2,3 +2,4 @@ pub mod Unread
 pub mod FullTarget
 pub mod Level
 pub mod GuardBelow
+pub mod InHollow

@@ -1,2 +1,3 @@
 pub mod Filling
 pub mod Guarding
+pub mod Covering
