@@ -10,3 +10,4 @@ pub mod HoleSum
 pub mod Covered
 pub mod Theorems
 pub mod HoleTest
+pub mod FarHole

@@ -1,45 +1,29 @@
 -- What the first column says on each row of the table, as a number two columns long. Assumes nothing.
 use mathlib.Core.Path.{_≡_, refl, sym, ap, _∙_}
-use mathlib.Core.Bool.{Bool, true, false, not, cond, _&&_, true≢false}
+use mathlib.Core.Bool.{Bool, true, false, true≢false}
 use Prim.Native.Nat.{ℕ, _+_, _-_, _*_, _^_, _≤_, _<_}
 use native.Mathlib.Omega.{arith}
-use borrow.Author.Tests.{lt-ltb, ne-eqb}
-use lib.Dec.{eqb}
 use Rattle.limb.specs.Carry.{bit}
-use Rattle.numbers.specs.Operand.{Operand, mantissa}
-use Rattle.rounding.specs.Mode.{Mode, Way, near, under, over, way}
+use Rattle.numbers.specs.Operand.{Operand}
+use Rattle.rounding.specs.Mode.{Mode, Way, way}
 use Rattle.rounding.specs.Answer.{rounded}
 use Rattle.rounding.specs.Sum.{add}
 use Rattle.depth.proofs.Bounds.{deepest-today}
-use Rattle.decide.specs.Table.{hole?}
 use Rattle.decide.specs.Decide.{decideAt}
 use Rattle.decide.proofs.Settled.{Enough}
 use Rattle.settle.specs.Rows.{rowOf}
 use Rattle.settle.specs.declared.rows.Row.{Row}
 use Rattle.settle.specs.declared.rows.Row.the-variants.{Exact, Plus, Minus, Hole}
-use Rattle.bridge.specs.Verdict.{pairOf, Ordered, Leads, readSum, settledBy, moreOf, verdict, inner?, middle?, holeWay}
+use Rattle.bridge.specs.Verdict.{pairOf, Ordered, Leads, readSum, settledBy, moreOf, verdict, inner?}
 use Rattle.bridge.proofs.Told.{pair-gap}
 use Rattle.bridge.proofs.Decision.{decision}
 use Rattle.bridge.proofs.Answers.{sum-pos, tests-are}
 use Rattle.bridge.proofs.Refine.{enough-digits, scaled-up}
-use Rattle.bridge.proofs.Theorems.{row-sum, hole-place, hole-sum, hole-difference}
-use Rattle.bridge.proofs.HoleTest.{hole-test}
+use Rattle.bridge.proofs.Theorems.{row-sum, hole-place}
+use Rattle.bridge.proofs.FarHole.{far-fixed, far-sum, far-difference}
 use Rattle.bridge.proofs.Covered.{columns-above}
 use Rattle.descent.specs.Course.{Inside}
 use Rattle.descent.proofs.Inside.{inside-plus, inside-minus}
-
--- a hole of a limb or more fixes digits that fit into it, and no tie is near
-hole-fixes : (w : Way) (p n : ℕ) (odd : Bool) → p + 1 < n → hole? w p n odd ≡ true
-unfolding hole?
-hole-fixes near p n odd h = rw (lt-ltb (p + 1) n h) refl
-hole-fixes under p n odd h = lt-ltb p n (omega arith)
-hole-fixes over p n odd h = lt-ltb p n (omega arith)
-
-off-middle : (w : Way) (p gap : ℕ) → (p ≡ gap → ⊥) → middle? w p gap ≡ false
-unfolding middle?
-off-middle near p gap h = ne-eqb p gap h
-off-middle under p gap h = refl
-off-middle over p gap h = refl
 
 module _ (p : ℕ) (P : 0 < p) (o : Mode) (x y : Operand) (d : Ordered x y) (lead : Leads x y 1) where
   abbrev w : Way
@@ -100,25 +84,17 @@ module _ (p : ℕ) (P : 0 < p) (o : Mode) (x y : Operand) (d : Ordered x y) (lea
     far : 64 ≤ pairOf x y .gap
     far = let h = hole-place o p P x y 1 d one is in rw (pair-gap x y (h .0)) (h .1)
 
-    fixed : decideAt o p x y 1 ≡ true
-    fixed = hole-test o p P x y 1 d one is ∙ hole-fixes w p _ _ (go (not (pairOf x y .same) && eqb (mantissa x) (2 ^ (x .precision - 1))))
-      where
-        go : (b : Bool) → p + 1 < pairOf x y .gap + 1 - cond b 1 0
-        go true = omega (arith, far)
-        go false = omega (arith, far)
+    deep : p + 1 < pairOf x y .gap
+    deep = omega (arith, far)
 
-    way-is : holeWay w p (pairOf x y) ≡ w
-    unfolding holeWay
-    way-is = rw (off-middle w p (pairOf x y .gap) (λ e. omega (arith, far))) refl
-
-    moved : (N : ℕ) → add o p x y ≡ rounded (holeWay w p (pairOf x y)) p (x .exponent - 64 - 64 - 1) (x .negative) N → Says N
-    moved N e = (fixed, e ∙ ap (λ (z : Way). rounded z p (x .exponent - 64 - 64 - 1) (x .negative) N) way-is ∙ ap (λ (n : ℕ). rounded w p n (x .negative) N) (under-two (x .exponent)))
+    moved : (N : ℕ) → add o p x y ≡ rounded w p (x .exponent - 64 - 64 - 1) (x .negative) N → Says N
+    moved N e = (far-fixed o p P x y 1 d one is deep, e ∙ ap (λ (n : ℕ). rounded w p n (x .negative) N) (under-two (x .exponent)))
       where
         under-two : (n : ℕ) → n - 64 - 64 - 1 ≡ n - 128 - 1
         under-two n = omega arith
 
     pub hole-sum-says : pairOf x y .same ≡ true → Says (2 * (D * 2 ^ 64) + 1)
-    hole-sum-says s = moved _ (hole-sum o p P x y 1 d one is 1 (omega (arith, room)) fixed s (omega arith))
+    hole-sum-says s = moved _ (far-sum o p P x y 1 d one is deep 1 (omega (arith, room)) (omega arith) s)
 
     pub hole-difference-says : pairOf x y .same ≡ false → Says (2 * (D * 2 ^ 64) - 1)
-    hole-difference-says s = moved _ (hole-difference o p P x y 1 d one is 1 (omega (arith, room)) fixed s (omega arith))
+    hole-difference-says s = moved _ (far-difference o p P x y 1 d one is deep 1 (omega (arith, room)) (omega arith) s)

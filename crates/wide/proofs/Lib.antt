@@ -3,3 +3,4 @@ pub mod FullTarget
 pub mod Level
 pub mod GuardBelow
 pub mod InOrder
+pub mod InHollow

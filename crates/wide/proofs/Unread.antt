@@ -1,13 +1,14 @@
--- What a row says where something is unread and there is no hole, by the tests that the code makes. Assumes nothing.
+-- What a row says where all is read, where there is a hole, and where something is unread and there is none, by the tests that the code makes. Assumes nothing.
 use mathlib.Core.Path.{_≡_, refl, sym, _∙_}
 use mathlib.Core.Bool.{Bool, true, false, not, cond, _&&_}
 use Prim.Native.Nat.{ℕ, _+_, _*_, _<_}
 use native.Mathlib.Omega.{arith}
-use borrow.Author.Tests.{ne-eqb}
+use borrow.Author.Tests.{ne-eqb, leb-true, lt-leb}
 use lib.Dec.{ltb, leb, eqb}
+use Rattle.decide.proofs.Settled.{and-true}
 use Rattle.settle.specs.Rows.{rowOf, farRow, seenRow}
 use Rattle.settle.specs.declared.rows.Pair.{Pair}
-use Rattle.settle.specs.declared.rows.Row.the-variants.{Exact, Plus, Minus}
+use Rattle.settle.specs.declared.rows.Row.the-variants.{Exact, Plus, Minus, Hole}
 use Rattle.bridge.specs.Verdict.{inner?, moreOf}
 
 module _ (s : Pair) (k : ℕ) (some : 0 < s .second) where
@@ -20,6 +21,12 @@ module _ (s : Pair) (k : ℕ) (some : 0 < s .second) where
   pub row-read : (leb (s .first) c && leb (s .gap + s .second) c) ≡ true → rowOf s k ≡ Exact
   unfolding rowOf
   row-read e = rw (two, e) refl
+
+  pub row-hole : (leb c (s .gap) && leb (s .first) c) ≡ true → rowOf s k ≡ Hole
+  unfolding rowOf
+  row-hole e =
+      let t = and-true (leb c (s .gap)) (leb (s .first) c) e in
+      rw (two, t .0, t .1, lt-leb (s .gap + s .second) c (omega (arith, leb-true c (s .gap) (t .0)))) refl
 
   abbrev Below : Bool → Type 0
   Below more = (inner? (rowOf s k) ≡ true) × (moreOf (rowOf s k) ≡ more)

@@ -1,3 +1,4 @@
 pub mod Filling
 pub mod Guarding
 pub mod Attempted
+pub mod Covering

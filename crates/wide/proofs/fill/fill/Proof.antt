@@ -1,4 +1,5 @@
 -- `wide::fill` is right whichever way it goes. Assumes nothing.
+use mathlib.Core.Path.{sym, _∙_}
 use Prim.Native.Nat.{ℕ, _+_, _≤_}
 use native.Mathlib.Omega.{arith}
 use Rattle.wide.proofs.FullTarget.{offered-modest}
@@ -13,7 +14,7 @@ is-hollow-requires : tie.Need-is-hollow-requires
 is-hollow-requires c κs = let s = c .before .before .before in offered-modest (s .args .p) _ (s .args .first .now) (s .args .second .now) (s .pre .1) _ _ (s .pre .0) (near _)
 
 fill-hollow-requires : tie.Need-fill-hollow-requires
-fill-hollow-requires c κs = search needs
+fill-hollow-requires c κs = let s = c .before .before .before .before .before .before in (s .pre .0, s .pre .1, sym (c .before .before .is-hollow .ensures) ∙ c .before .if1 .taken)
 
 same-length : tie.Need-same-length
 same-length c = search needs
