@@ -13,7 +13,7 @@ use Rattle.numbers.specs.Operand.{Operand, mantissa, lastWeight, spareBits}
 use Rattle.rounding.specs.Mode.{modeOf, way}
 use Rattle.rounding.specs.Select.{quotient, onGrid, unit, chosen}
 use Rattle.rounding.specs.Answer.{digits, signed}
-use Rattle.place.specs.Placed.{ternaryOf}
+use Rattle.location.specs.Ternary.{ternaryOf}
 use Rattle.checks.specs.declared.Number.{Number}
 use Rattle.checks.specs.declared.Refusal.{Refusal}
 use Rattle.checks.specs.declared.Kind.{Kind}

@@ -22,6 +22,8 @@ use Rattle.ending.specs.Finishing.{Signed}
 use Rattle.ending.proofs.RegularEnd.{deep-enough}
 use Rattle.narrow.specs.declared.looking.Sight.{Sight}
 use Rattle.narrow.specs.Looked.{Looked}
+use Rattle.wide.specs.declared.attempting.Wide.{Wide}
+use Rattle.wide.specs.Attempted.{Attempted}
 use Rattle.sums.specs.declared.report.Sum.{Sum}
 use Rattle.sums.specs.Summed.{sumOf, Reported}
 use Rattle.sums.proofs.RegularReport.{sum-depth}
@@ -35,6 +37,14 @@ narrow-told p {a} {b} e f h = let t = go (leb p 62) a b h in (leb-true p 62 (t .
     go true false true h = absurd (true≢false (sym h))
     go true true b h = absurd (true≢false (sym h))
     go false a b h = absurd (true≢false (sym h))
+
+pub regular-told : {a b u v : Bool} → a ≡ u → b ≡ v → (not a && not b) ≡ true → (u ≡ false) × (v ≡ false)
+regular-told {a} {b} e f h = let t = go a b h in (sym e ∙ t .0, sym f ∙ t .1)
+  where
+    go : (a b : Bool) → (not a && not b) ≡ true → (a ≡ false) × (b ≡ false)
+    go false false h = (refl, refl)
+    go false true h = absurd (true≢false (sym h))
+    go true b h = absurd (true≢false (sym h))
 
 -- so few digits take one limb
 pub one-limb : (p n : ℕ) → Room p n → p ≤ 62 → n ≡ 1
@@ -58,6 +68,22 @@ looked-reported o p x y sight entry {s} room h l told =
       bounded = rw k (omega (arith, deep-enough));
       answer = e ∙ rw (l .first, l .second, k) refl;
       target = one-left entry (sight .seen .limb) (one-limb p (length entry) room h) ∙ l .left .limbs;
+    }
+
+-- ---- what is read at once into the target
+
+pub attempted-reported : (o : Mode) (p : ℕ) (x y : Operand) (w : Wide) (exit : List ℕ) {s : Sum} → Attempted o p x y exit (w .negative) (w .placed) (w .depth) (w .first) (w .second)
+    → ((a : Answer) → Signed (w .negative) a → w .placed ≡ placedOf a → s ≡ sumOf a p (w .depth) (w .first) (w .second))
+    → Reported plus o p x y exit s
+unfolding result
+attempted-reported o p x y w exit {s} l told =
+    let e : s ≡ sumOf (add o p x y) p (w .depth) (w .first) (w .second) = told (add o p x y) (l .signed) (l .left .told) in
+    let k : s .depth ≡ w .depth = ap (λ (q : Sum). q .depth) e ∙ sum-depth (add o p x y) p (w .depth) (w .first) (w .second) in
+    record {
+      depth = rw k (l .decides);
+      bounded = rw k (l .bounded);
+      answer = e ∙ rw (l .first-used, l .second-used, k) refl;
+      target = l .left .limbs;
     }
 
 -- ---- copies of the operands

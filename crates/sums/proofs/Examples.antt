@@ -28,7 +28,8 @@ use Rattle.checks.specs.declared.Kind.{Kind}
 use Rattle.checks.specs.declared.Kind.the-variants.{Regular, Zero}
 use Rattle.checks.specs.Number.{isZeroKind, operandOf, exponentOf, nothing}
 use Rattle.checks.specs.Check.{accepted, firstRefusal, modeHolds, precisionHolds, lengthHolds, exponentHolds, topBitHolds, spareBitsHold, formHolds, pairRefusal, singleRefusal}
-use Rattle.place.specs.Placed.{ternaryOf, limbsAfter}
+use Rattle.location.specs.Ternary.{ternaryOf}
+use Rattle.place.specs.Placed.{limbsAfter}
 use Rattle.sums.specs.declared.report.Sum.{Sum}
 use Rattle.sums.specs.Summed.{refusedSum, sumOf, Reported, Refused, Summed, Rerounded}
 

@@ -46,6 +46,37 @@ fn summed(mode: u8, x: Number, xl: &[u64], y: Number, yl: &[u64], p: u64, target
     both(mode, x, xl, y, yl, p, target)
 }
 
+// The same over copies of the numbers: a quicker way before it has none of them in memory.
+fn summed_apart(
+    mode: u8,
+    x: Number,
+    xl: &[u64],
+    y: Number,
+    yl: &[u64],
+    p: u64,
+    target: &mut [u64],
+) -> Sum
+    requires { ⌜ (mode ≤ 3) × WellFormed (operandOf x (now xl)) × WellFormed (operandOf y (now yl)) × Room p (length (now target)) ⌝ }
+    ensures { λ r. ⌜ Reported plus (modeOf mode) p (operandOf x (now (xl .entry))) (operandOf y (now (yl .entry))) (now (target .exit)) r ⌝ }
+{
+    summed(
+        mode,
+        checks::copied(x),
+        xl,
+        checks::copied(y),
+        yl,
+        p,
+        target,
+    )
+}
+
+// Whether two numbers are regular.
+fn is_regular(x: Number, y: Number) -> bool
+    ensures { λ r. ⌜ (r ≡ true → (isZeroKind (x .kind) ≡ false) × (isZeroKind (y .kind) ≡ false)) ⌝ }
+{
+    !checks::is_zero(x) & !checks::is_zero(y)
+}
+
 // Whether two numbers are regular, and the digits are so few that their first column may tell all.
 fn is_narrow(p: u64, x: Number, y: Number) -> bool
     ensures { λ r. ⌜ (r ≡ true → (p ≤ 62) × (isZeroKind (x .kind) ≡ false) × (isZeroKind (y .kind) ≡ false)) ⌝ }
@@ -53,7 +84,7 @@ fn is_narrow(p: u64, x: Number, y: Number) -> bool
     (p <= 62) & !checks::is_zero(x) & !checks::is_zero(y)
 }
 
-// x + y, rounded to p digits: at once where the first column fixes it.
+// x + y, rounded to p digits: at once where the first column fixes it, or the columns that fill the target.
 pub fn add(
     mode: u8,
     x: Number,
@@ -78,15 +109,22 @@ pub fn add(
             return answered(placed, sight.negative, p, 1, sight.first, sight.second);
         }
     }
-    summed(
-        mode,
-        checks::copied(x),
-        xl,
-        checks::copied(y),
-        yl,
-        p,
-        target,
-    )
+    if is_regular(x, y) {
+        let told = wide::attempt(mode, x, xl, y, yl, p, target);
+        if told.open {
+            return summed_apart(mode, x, xl, y, yl, p, target);
+        }
+        let placed = told.placed;
+        return answered(
+            placed,
+            told.negative,
+            p,
+            told.depth,
+            told.first,
+            told.second,
+        );
+    }
+    summed_apart(mode, x, xl, y, yl, p, target)
 }
 
 // x - y, rounded to p digits: the sum with the second sign turned.
