@@ -75,6 +75,12 @@ pub twelve-reported : (exit : List ℕ) (r : Sum) → Reported minus nearest 4 (
 unfolding result add subtract turned sumAt amount answer rounded ranged chosen onGrid unit quotient way share scale zeroSign lastWeight mantissa spareBits limbsFor bias leastPrecision mostPrecision leastExponent mostExponent valueIn size all tests areLimbs bound boundOf farColumns columnsFor sumOf refusedSum nothing limbsUsed topExponent limbsAfter
 twelve-reported exit r h = shallow minus nearest 4 (lit< tt) (shown 2 0b11 leastExponent) (shown 2 0b10 leastExponent) tt tt refl refl tooSmall refl exit r h
 
+-- as marked sum 11, up, with the second number farther: refused 6, and limbs 1 and 0 are reported
+pub eleven-farther : (exit : List ℕ) (r : Sum) → Reported plus upward 4 (shown 4 0b1111 mostExponent) (shown 2 0b10 (mostExponent - 100)) exit r
+    → (r ≡ record { number = given false Zero 2 (pos 0); ternary = pos 0; depth = 1; first = 1; second = 0; refusal = at 6 3 }) × (exit ≡ 0 ∷ [])
+unfolding result add sumAt amount answer rounded ranged chosen onGrid unit quotient way share scale zeroSign lastWeight mantissa spareBits limbsFor bias leastPrecision mostPrecision leastExponent mostExponent valueIn size all tests areLimbs bound boundOf farColumns columnsFor sumOf refusedSum nothing limbsUsed topExponent limbsAfter
+eleven-farther exit r h = shallow plus upward 4 (lit< tt) (shown 4 0b1111 mostExponent) (shown 2 0b10 (mostExponent - 100)) tt tt refl refl tooLarge refl exit r h
+
 -- as marked sum 13, with the second number nearer: the last of 62 bits set, ternary value 1, depth 1, limbs 1 and 0
 pub thirteen-nearer : (exit : List ℕ) (r : Sum) → Reported plus upward 62 (shown 2 0b10 bias) (shown 2 0b10 (bias - 100)) exit r
     → (r ≡ record { number = given false Regular 62 (pos 0); ternary = pos 1; depth = 1; first = 1; second = 0; refusal = at 0 0 }) × (exit ≡ (2 ^ 63 + 2 ^ 2) ∷ [])
