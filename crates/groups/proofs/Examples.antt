@@ -2,16 +2,16 @@
 use mathlib.Core.Path.{_≡_, refl, ap, _∙_}
 use mathlib.Core.Bool.{Bool, true, false}
 use mathlib.Core.List.{List, [], _∷_, map, _++_}
-use Prim.Native.Nat.{ℕ, zero, suc, _+_, _-_, _*_, _^_}
+use Prim.Native.Nat.{ℕ, _+_, _-_, _^_}
 use Prim.Native.String.{String}
-use lib.IntN.{ℤ, pos, negsuc, subℕ}
-use lib.ListN.{length, take, drop, replicate}
+use lib.IntN.{ℤ, pos, negsuc}
+use lib.ListN.{length, replicate}
 use Rattle.numbers.specs.Limits.{leastPrecision, mostPrecision, bias, counted, leastExponent, mostExponent, limbsFor}
 use Rattle.numbers.specs.Operand.{spareBits}
-use Rattle.rounding.specs.Mode.{nearest, modeOf}
+use Rattle.rounding.specs.Mode.{modeOf}
 use Rattle.depth.specs.Depth.{plus, minus}
 use Rattle.checks.specs.declared.Refusal.{Refusal}
-use Rattle.checks.specs.declared.Kind.the-variants.{Regular, Zero}
+use Rattle.checks.specs.declared.Kind.the-variants.{Regular}
 use Rattle.checks.specs.Number.{isZeroKind, operandOf}
 use Rattle.checks.specs.Check.{accepted, firstRefusal, modeHolds, precisionHolds, lengthHolds, exponentHolds, topBitHolds, spareBitsHold, formHolds, pairRefusal}
 use Rattle.text.specs.Digits.{digitOf, allDigits, glyphOf, worth, numeral}

@@ -4,17 +4,14 @@ use mathlib.Core.Bool.{true, false}
 use mathlib.Core.List.{[], _∷_, map}
 use lib.IntN.{pos, negsuc}
 use lib.Ieee.{fin, ofBits, ofFields, odd}
-use Rattle.checks.specs.declared.Number.{Number}
 use Rattle.checks.specs.declared.Kind.the-variants.{Regular, Zero}
 use Rattle.order.specs.declared.Order.the-variants.{Less, Equal, Greater}
-use Rattle.order.specs.declared.Compared.{Compared}
 use Rattle.order.specs.Order.{numberOf}
 use Rattle.doubles.specs.declared.Converted.{Converted}
 use Rattle.doubles.specs.declared.Converted.the-variants.{Exact, Below, Above, Refused}
 use Rattle.doubles.specs.Double.{signBit, double}
 use Rattle.doubles.specs.Convert.{told}
 use Rattle.sheafbuckle.specs.declared.plain.PlainNumber.{PlainNumber}
-use Rattle.sheafbuckle.specs.declared.plain.PlainRead.{PlainRead}
 use Rattle.sheafbuckle.specs.Plain.{kindFrom, numberFrom, sumFrom}
 use Rattle.sheafbuckle.specs.Answers.{orderTold, doubleTold, enclosedFrom, readFrom, headFrom, writtenFrom}
 

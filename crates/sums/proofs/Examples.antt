@@ -1,19 +1,18 @@
 -- Sums as a caller gets them, computed: document 01's case and marked sums with all that is reported; zeros; and a refused call. Assumes nothing.
-use mathlib.Core.Path.{_≡_, refl, sym, ap, _∙_, subst}
-use mathlib.Core.Bool.{Bool, true, false, true≢false, _&&_}
+use mathlib.Core.Path.{_≡_, refl, ap, _∙_, subst}
+use mathlib.Core.Bool.{Bool, true, false, _&&_}
 use mathlib.Core.List.{List, [], _∷_}
 use Prim.Native.Nat.{ℕ, _+_, _-_, _*_, _^_, _≤_, _<_, Ordering·lt, Ordering·gt}
 use native.Mathlib.Nat.{le-antisymm}
 use native.Mathlib.Omega.{arith}
 use lib.Dec.{T, lit<}
-use lib.IntN.{ℤ, pos, negsuc, subℕ}
-use lib.ListN.{length, replicate}
+use lib.IntN.{ℤ, pos, negsuc}
 use lib.Ieee.{size}
 use Rattle.limb.specs.Value.{valueIn}
 use Rattle.numbers.specs.Limits.{leastPrecision, mostPrecision, bias, counted, leastExponent, mostExponent, limbsFor}
 use Rattle.numbers.specs.Limbs.{limbsOf}
-use Rattle.numbers.specs.Operand.{Operand, mantissa, lastWeight, spareBits, turned, zeroLike, WellFormed}
-use Rattle.rounding.specs.Mode.{Mode, nearest, upward, modeOf, way}
+use Rattle.numbers.specs.Operand.{Operand, mantissa, lastWeight, spareBits, turned, zeroLike}
+use Rattle.rounding.specs.Mode.{Mode, nearest, upward, way}
 use Rattle.rounding.specs.Select.{quotient, onGrid, unit, chosen}
 use Rattle.rounding.specs.Answer.{Answer, number, tooLarge, tooSmall, ranged, digits, signed, rounded, answer}
 use Rattle.rounding.specs.Sum.{scale, amount, share, zeroSign, sumAt, add, subtract}
@@ -27,10 +26,10 @@ use Rattle.checks.specs.declared.Refusal.{Refusal}
 use Rattle.checks.specs.declared.Kind.{Kind}
 use Rattle.checks.specs.declared.Kind.the-variants.{Regular, Zero}
 use Rattle.checks.specs.Number.{isZeroKind, operandOf, exponentOf, nothing}
-use Rattle.checks.specs.Check.{accepted, firstRefusal, modeHolds, precisionHolds, lengthHolds, exponentHolds, topBitHolds, spareBitsHold, formHolds, pairRefusal, singleRefusal}
+use Rattle.checks.specs.Check.{accepted, firstRefusal, modeHolds, precisionHolds, lengthHolds, exponentHolds, formHolds, pairRefusal, singleRefusal}
 use Rattle.place.specs.Placed.{ternaryOf, limbsAfter}
 use Rattle.sums.specs.declared.report.Sum.{Sum}
-use Rattle.sums.specs.Summed.{refusedSum, sumOf, Reported, Refused, Summed, Rerounded}
+use Rattle.sums.specs.Summed.{refusedSum, sumOf, Reported, Summed, Rerounded}
 
 abbrev given : Bool → Kind → ℕ → ℤ → Number
 given n k p e = record { negative = n; kind = k; precision = p; exponent = e }
