@@ -1,11 +1,9 @@
 -- Refusals computed: calls with every fault, then with one fault fewer each; the ends of every limit; and what turning a number does to its operand. Assumes nothing.
 use mathlib.Core.Path.{_≡_, refl}
-use mathlib.Core.Bool.{Bool, true, false}
+use mathlib.Core.Bool.{true, false}
 use mathlib.Core.List.{List, [], _∷_, map}
 use Prim.Native.Nat.{ℕ, _-_, _^_}
 use lib.IntN.{ℤ, pos, negsuc}
-use lib.ListN.{length}
-use Rattle.limb.specs.Value.{valueIn}
 use Rattle.numbers.specs.Limits.{leastPrecision, mostPrecision, bias, counted, leastExponent, mostExponent, limbsFor}
 use Rattle.numbers.specs.Operand.{Operand, spareBits, turned}
 use Rattle.checks.specs.declared.Number.{Number}

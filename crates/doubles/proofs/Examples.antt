@@ -3,10 +3,9 @@ use mathlib.Core.Path.{_≡_, refl}
 use mathlib.Core.Bool.{Bool, true, false}
 use mathlib.Core.List.{List, [], _∷_, map}
 use Prim.Native.Nat.{ℕ, _+_, _-_, _*_, _^_}
-use lib.IntN.{ℤ, pos, negsuc, subℕ}
+use lib.IntN.{ℤ, pos, negsuc}
 use lib.ListN.{length}
-use lib.Count.{trailingZeros}
-use lib.Ieee.{Float, nan, inf, fin, binary64, toBits, ofBits, ofFields, odd, isNan, size}
+use lib.Ieee.{Float, nan, inf, fin, toBits, ofBits, ofFields, odd, isNan, size}
 use Rattle.limb.specs.Value.{valueIn}
 use Rattle.numbers.specs.Limits.{leastPrecision, mostPrecision, bias, counted, leastExponent, mostExponent, limbsFor}
 use Rattle.numbers.specs.Operand.{Operand, mantissa, lastWeight, spareBits}
@@ -14,13 +13,11 @@ use Rattle.rounding.specs.Mode.{modeOf, way}
 use Rattle.rounding.specs.Select.{quotient, onGrid, unit, chosen}
 use Rattle.rounding.specs.Answer.{digits, signed}
 use Rattle.location.specs.Ternary.{ternaryOf}
-use Rattle.checks.specs.declared.Number.{Number}
 use Rattle.checks.specs.declared.Refusal.{Refusal}
 use Rattle.checks.specs.declared.Kind.{Kind}
 use Rattle.checks.specs.declared.Kind.the-variants.{Regular, Zero}
 use Rattle.checks.specs.Number.{isZeroKind, operandOf, exponentOf}
 use Rattle.checks.specs.Check.{accepted, firstRefusal, modeHolds, precisionHolds, lengthHolds, exponentHolds, topBitHolds, spareBitsHold, formHolds, convertedRefusal, aloneRefusal}
-use Rattle.doubles.specs.declared.Converted.{Converted}
 use Rattle.doubles.specs.declared.Converted.the-variants.{Exact, Below, Above, Refused}
 use Rattle.doubles.specs.declared.Enclosed.{Enclosed}
 use Rattle.unpack.specs.declared.FromDouble.{FromDouble}

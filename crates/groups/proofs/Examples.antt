@@ -2,16 +2,16 @@
 use mathlib.Core.Path.{_≡_, refl, ap, _∙_}
 use mathlib.Core.Bool.{Bool, true, false}
 use mathlib.Core.List.{List, [], _∷_, map, _++_}
-use Prim.Native.Nat.{ℕ, zero, suc, _+_, _-_, _*_, _^_}
+use Prim.Native.Nat.{ℕ, _+_, _-_, _^_}
 use Prim.Native.String.{String}
-use lib.IntN.{ℤ, pos, negsuc, subℕ}
-use lib.ListN.{length, take, drop}
+use lib.IntN.{ℤ, pos, negsuc}
+use lib.ListN.{length, replicate}
 use Rattle.numbers.specs.Limits.{leastPrecision, mostPrecision, bias, counted, leastExponent, mostExponent, limbsFor}
 use Rattle.numbers.specs.Operand.{spareBits}
-use Rattle.rounding.specs.Mode.{nearest, modeOf}
+use Rattle.rounding.specs.Mode.{modeOf}
 use Rattle.depth.specs.Depth.{plus, minus}
 use Rattle.checks.specs.declared.Refusal.{Refusal}
-use Rattle.checks.specs.declared.Kind.the-variants.{Regular, Zero}
+use Rattle.checks.specs.declared.Kind.the-variants.{Regular}
 use Rattle.checks.specs.Number.{isZeroKind, operandOf}
 use Rattle.checks.specs.Check.{accepted, firstRefusal, modeHolds, precisionHolds, lengthHolds, exponentHolds, topBitHolds, spareBitsHold, formHolds, pairRefusal}
 use Rattle.text.specs.Digits.{digitOf, allDigits, glyphOf, worth, numeral}
@@ -85,6 +85,17 @@ pub groups-in-order :
     ≡ at 10 1 ∷ at 8 2 ∷ at 4 2 ∷ at 11 3 ∷ at 1 0 ∷ at 2 3 ∷ at 0 0 ∷ []
 unfolding bytes groupRefusal linesRefusal sumRefusal earlier placed numberRefusal orderRefusal orderOf orderSize longestLine readRefusal headTests limbTests numberIn operandIn operandOfLine limbsOfLine limbsRead limbsIn field kindIn signedOf negativeOf kindOf digitsHold allDigits digitOf worth lineFeed shortestLine lineSize pairRefusal firstRefusal accepted modeHolds precisionHolds lengthHolds exponentHolds formHolds operandOf isZeroKind counted bias leastPrecision mostPrecision leastExponent mostExponent limbsFor spareBits
 groups-in-order = refl
+
+-- ---- the longest line
+
+-- 1 / 2 in 4,096 digits: a line of 1,039 bytes
+abbrev longest : List ℕ
+longest = bytes "001000000000008" ++ replicate 1023 48 ++ bytes "\n"
+
+-- it is read; a line of 1,040 bytes is 8 at its place, whatever stands in it
+pub longest-lines : (length longest ≡ 1039) × (numberRefusal 2 longest ≡ at 0 0) × (numberRefusal 2 (replicate 1040 48) ≡ at 8 2)
+unfolding bytes placed numberRefusal longestLine readRefusal headTests limbTests numberIn operandIn limbsIn field kindIn signedOf negativeOf kindOf digitsHold allDigits digitOf worth lineFeed shortestLine lineSize firstRefusal accepted precisionHolds lengthHolds exponentHolds formHolds topBitHolds spareBitsHold operandOf isZeroKind counted bias leastPrecision mostPrecision leastExponent mostExponent limbsFor spareBits
+longest-lines = (refl, refl, refl)
 
 -- ---- document 01's case, whole
 

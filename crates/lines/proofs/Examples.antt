@@ -1,11 +1,11 @@
 -- Stored lines written out: those of document 01's case, read and written, and the refusals in their order. Assumes nothing.
 use mathlib.Core.Path.{_≡_, refl}
 use mathlib.Core.Bool.{Bool, true, false}
-use mathlib.Core.List.{List, [], _∷_, map, _++_}
-use Prim.Native.Nat.{ℕ, zero, suc, _+_, _-_, _*_, _^_}
+use mathlib.Core.List.{List, [], _∷_, map}
+use Prim.Native.Nat.{ℕ, zero, _+_, _-_, _^_}
 use Prim.Native.String.{String}
-use lib.IntN.{ℤ, pos, negsuc, subℕ}
-use lib.ListN.{length, take, drop, replicate}
+use lib.IntN.{ℤ, pos, negsuc}
+use lib.ListN.{length}
 use Rattle.numbers.specs.Limits.{leastPrecision, mostPrecision, bias, counted, leastExponent, mostExponent, limbsFor}
 use Rattle.numbers.specs.Operand.{spareBits}
 use Rattle.checks.specs.declared.Number.{Number}
@@ -98,22 +98,21 @@ pub lines-read :
 unfolding bytes readOf targetAfter limbsRead limbsIn readRefusal headTests limbTests answered numberIn operandIn field kindIn signedOf negativeOf kindOf digitsHold allDigits digitOf worth lineFeed shortestLine lineSize firstRefusal accepted precisionHolds lengthHolds exponentHolds formHolds topBitHolds spareBitsHold operandOf isZeroKind counted bias leastPrecision mostPrecision leastExponent mostExponent limbsFor spareBits
 lines-read = refl
 
--- one fault fewer each time, in document 01's order: 14 bytes; a byte that is no digit, an LF within, a last byte that is no LF;
--- the kind; the precision; the exact size; the exponent, of a regular number and of a zero; the target, of a zero too; the form
+-- one fault fewer each time, in document 01's order: 14 bytes; a byte that is no digit, an LF within, a last byte that is no LF; the kind;
+-- the precision; the exact size, of a regular number and of a zero; the exponent, of both; the target, for both; the top bit and a spare bit
 pub reads-in-order :
     read "0400010000000\n"
     ∷ read "0400010000000G\n"
-    ∷ read "040001000000\n0\n"
+    ∷ read "04000100000000\n\n"
     ∷ read "040001000000000"
     ∷ read "04000100000000\n"
     ∷ read "00000140000000\n"
     ∷ read "00000240000000\n"
-    ∷ read "02000240000000\n\n"
+    ∷ read "020002400000000\n"
     ∷ read "000002400000000000000000000001\n"
     ∷ read "02000200000001\n"
     ∷ read "000002000000000000000000000001\n"
     ∷ read "02000200000000\n"
-    ∷ read "00004100000000000000000000000180000000000000\n"
     ∷ read "0000410000000000000000000000018000000000000000\n"
     ∷ read "0000410000000080000000000000004000000000000000\n"
     ∷ []
@@ -124,12 +123,11 @@ pub reads-in-order :
     ∷ refuses 10 1
     ∷ refuses 2 1
     ∷ refuses 8 1
-    ∷ refuses 9 1
-    ∷ refuses 4 1
-    ∷ refuses 4 1
-    ∷ refuses 3 3
-    ∷ refuses 3 3
     ∷ refuses 8 1
+    ∷ refuses 4 1
+    ∷ refuses 4 1
+    ∷ refuses 3 3
+    ∷ refuses 3 3
     ∷ refuses 5 1
     ∷ refuses 5 1
     ∷ []

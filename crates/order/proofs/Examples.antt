@@ -1,11 +1,10 @@
 -- Comparisons computed, and what an order says of the exact difference. Assumes nothing.
-use mathlib.Core.Path.{_≡_, refl, sym, subst}
-use mathlib.Core.Bool.{Bool, true, false, not}
+use mathlib.Core.Path.{_≡_, refl}
+use mathlib.Core.Bool.{Bool, true, false}
 use mathlib.Core.List.{List, [], _∷_}
 use Prim.Native.Nat.{ℕ, _+_, _-_, _*_, _^_, _<_, compare, Ordering, Ordering·lt, Ordering·eq, Ordering·gt}
 use native.Mathlib.Omega.{arith}
 use lib.IntN.{ℤ, pos, negsuc}
-use lib.ListN.{length}
 use Rattle.limb.specs.Value.{valueIn}
 use Rattle.numbers.specs.Limits.{leastPrecision, mostPrecision, bias, counted, leastExponent, mostExponent, limbsFor}
 use Rattle.numbers.specs.Operand.{Operand, spareBits, mantissa, lastWeight, turned}
@@ -13,12 +12,10 @@ use Rattle.rounding.specs.Sum.{scale, amount, share}
 use Rattle.rounding.specs.Paper.{Exact}
 use Rattle.rounding.proofs.Order.{Cmp, cmp}
 use Rattle.checks.specs.declared.Number.{Number}
-use Rattle.checks.specs.declared.Refusal.{Refusal}
 use Rattle.checks.specs.declared.Kind.{Kind}
 use Rattle.checks.specs.declared.Kind.the-variants.{Regular, Zero}
 use Rattle.checks.specs.Number.{isZeroKind, operandOf}
 use Rattle.checks.specs.Check.{accepted, firstRefusal, precisionHolds, lengthHolds, exponentHolds, topBitHolds, spareBitsHold, formHolds, comparedRefusal}
-use Rattle.order.specs.declared.Compared.{Compared}
 use Rattle.order.specs.Order.{orderOf, caseOf, numberOf, signOf, comparedOf}
 use Rattle.order.proofs.Laws.{turned-share}
 

@@ -1,9 +1,9 @@
 -- Inputs of the desk written out: their lines, groups that are cut short, and document 01's case from input to output. Assumes nothing.
 use mathlib.Core.Path.{_≡_, refl, sym, subst}
-use mathlib.Core.List.{List, [], _∷_, _++_, append-nil, map}
-use Prim.Native.Nat.{ℕ, suc}
+use mathlib.Core.List.{List, [], _∷_, append-nil, map}
+use Prim.Native.Nat.{ℕ}
 use Prim.Native.String.{String}
-use lib.ListN.{length, take, replicate}
+use lib.ListN.{length, replicate}
 use Rattle.numbers.specs.Limits.{mostPrecision, limbsFor}
 use Rattle.text.specs.Digits.{numeral, glyphOf}
 use Rattle.text.proofs.Bytes.{bytes}

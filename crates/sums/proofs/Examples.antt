@@ -1,19 +1,18 @@
 -- Sums as a caller gets them, computed: document 01's case and marked sums with all that is reported; zeros; and a refused call. Assumes nothing.
-use mathlib.Core.Path.{_≡_, refl, sym, ap, _∙_, subst}
-use mathlib.Core.Bool.{Bool, true, false, true≢false, _&&_}
+use mathlib.Core.Path.{_≡_, refl, ap, _∙_, subst}
+use mathlib.Core.Bool.{Bool, true, false, _&&_}
 use mathlib.Core.List.{List, [], _∷_}
 use Prim.Native.Nat.{ℕ, _+_, _-_, _*_, _^_, _≤_, _<_, Ordering·lt, Ordering·gt}
 use native.Mathlib.Nat.{le-antisymm}
 use native.Mathlib.Omega.{arith}
 use lib.Dec.{T, lit<}
-use lib.IntN.{ℤ, pos, negsuc, subℕ}
-use lib.ListN.{length, replicate}
+use lib.IntN.{ℤ, pos, negsuc}
 use lib.Ieee.{size}
 use Rattle.limb.specs.Value.{valueIn}
 use Rattle.numbers.specs.Limits.{leastPrecision, mostPrecision, bias, counted, leastExponent, mostExponent, limbsFor}
 use Rattle.numbers.specs.Limbs.{limbsOf}
-use Rattle.numbers.specs.Operand.{Operand, mantissa, lastWeight, spareBits, turned, zeroLike, WellFormed}
-use Rattle.rounding.specs.Mode.{Mode, nearest, upward, modeOf, way}
+use Rattle.numbers.specs.Operand.{Operand, mantissa, lastWeight, spareBits, turned, zeroLike}
+use Rattle.rounding.specs.Mode.{Mode, nearest, upward, way}
 use Rattle.rounding.specs.Select.{quotient, onGrid, unit, chosen}
 use Rattle.rounding.specs.Answer.{Answer, number, tooLarge, tooSmall, ranged, digits, signed, rounded, answer}
 use Rattle.rounding.specs.Sum.{scale, amount, share, zeroSign, sumAt, add, subtract}
@@ -27,11 +26,11 @@ use Rattle.checks.specs.declared.Refusal.{Refusal}
 use Rattle.checks.specs.declared.Kind.{Kind}
 use Rattle.checks.specs.declared.Kind.the-variants.{Regular, Zero}
 use Rattle.checks.specs.Number.{isZeroKind, operandOf, exponentOf, nothing}
-use Rattle.checks.specs.Check.{accepted, firstRefusal, modeHolds, precisionHolds, lengthHolds, exponentHolds, topBitHolds, spareBitsHold, formHolds, pairRefusal, singleRefusal}
+use Rattle.checks.specs.Check.{accepted, firstRefusal, modeHolds, precisionHolds, lengthHolds, exponentHolds, formHolds, pairRefusal, singleRefusal}
 use Rattle.location.specs.Ternary.{ternaryOf}
 use Rattle.place.specs.Placed.{limbsAfter}
 use Rattle.sums.specs.declared.report.Sum.{Sum}
-use Rattle.sums.specs.Summed.{refusedSum, sumOf, Reported, Refused, Summed, Rerounded}
+use Rattle.sums.specs.Summed.{refusedSum, sumOf, Reported, Summed, Rerounded}
 
 abbrev given : Bool → Kind → ℕ → ℤ → Number
 given n k p e = record { negative = n; kind = k; precision = p; exponent = e }
@@ -75,6 +74,12 @@ pub twelve-reported : (exit : List ℕ) (r : Sum) → Reported minus nearest 4 (
     → (r ≡ record { number = given false Zero 2 (pos 0); ternary = pos 0; depth = 1; first = 1; second = 1; refusal = at 7 3 }) × (exit ≡ 0 ∷ [])
 unfolding result add subtract turned sumAt amount answer rounded ranged chosen onGrid unit quotient way share scale zeroSign lastWeight mantissa spareBits limbsFor bias leastPrecision mostPrecision leastExponent mostExponent valueIn size all tests areLimbs bound boundOf farColumns columnsFor sumOf refusedSum nothing limbsUsed topExponent limbsAfter
 twelve-reported exit r h = shallow minus nearest 4 (lit< tt) (shown 2 0b11 leastExponent) (shown 2 0b10 leastExponent) tt tt refl refl tooSmall refl exit r h
+
+-- as marked sum 11, up, with the second number farther: refused 6, and limbs 1 and 0 are reported
+pub eleven-farther : (exit : List ℕ) (r : Sum) → Reported plus upward 4 (shown 4 0b1111 mostExponent) (shown 2 0b10 (mostExponent - 100)) exit r
+    → (r ≡ record { number = given false Zero 2 (pos 0); ternary = pos 0; depth = 1; first = 1; second = 0; refusal = at 6 3 }) × (exit ≡ 0 ∷ [])
+unfolding result add sumAt amount answer rounded ranged chosen onGrid unit quotient way share scale zeroSign lastWeight mantissa spareBits limbsFor bias leastPrecision mostPrecision leastExponent mostExponent valueIn size all tests areLimbs bound boundOf farColumns columnsFor sumOf refusedSum nothing limbsUsed topExponent limbsAfter
+eleven-farther exit r h = shallow plus upward 4 (lit< tt) (shown 4 0b1111 mostExponent) (shown 2 0b10 (mostExponent - 100)) tt tt refl refl tooLarge refl exit r h
 
 -- as marked sum 13, with the second number nearer: the last of 62 bits set, ternary value 1, depth 1, limbs 1 and 0
 pub thirteen-nearer : (exit : List ℕ) (r : Sum) → Reported plus upward 62 (shown 2 0b10 bias) (shown 2 0b10 (bias - 100)) exit r
