@@ -1,5 +1,7 @@
 pub mod Answered
 pub mod Rows
 pub mod Settled
+pub mod Passed
 pub mod Tops
 pub mod InOrder
+pub mod Lone
