@@ -9,9 +9,9 @@ use borrow.Author.Tests.{lt-ltb, le-ltb, le-leb, lt-leb, ne-eqb}
 use lib.Dec.{ltb, leb, eqb}
 use mir.Val.{boolByte}
 use lib.ListN.{length}
-use Rattle.numbers.specs.Limits.{counted, leastPrecision, mostPrecision, leastExponent, mostExponent, limbsFor}
+use Rattle.numbers.specs.Limits.{counted, leastPrecision, limbsFor}
 use Rattle.numbers.specs.Operand.{Operand, WellFormed}
-use Rattle.numbers.proofs.Limits.{two-digits, limbs-hold}
+use Rattle.numbers.proofs.Limits.{two-digits}
 use Rattle.rounding.specs.Mode.{Mode, modeOf}
 use Rattle.rounding.specs.Answer.{Answer}
 use Rattle.rounding.specs.Sum.{add}
@@ -27,13 +27,12 @@ use Rattle.settle.specs.declared.rows.Pair.{Pair}
 use Rattle.walk.specs.Column.{readTo}
 use Rattle.bridge.specs.Verdict.{pairOf, Ordered}
 use Rattle.bridge.proofs.Read.{read-none}
-use Rattle.bridge.proofs.Told.{pair-gap, top-is}
+use Rattle.bridge.proofs.Told.{top-is}
 use Rattle.bridge.proofs.Exchange.{top-exchange, deciding-exchange}
 use Rattle.descent.specs.Course.{Course}
 use Rattle.ending.specs.Finishing.{Left, Signed}
 use Rattle.ending.proofs.Handed.{ordered-pair}
 use Rattle.narrow.specs.declared.seeing.Seen.{Seen}
-use Rattle.narrow.specs.declared.looking.Sight.{Sight}
 use Rattle.narrow.specs.Sighting.{topLimb, Held, Facing, Told}
 use Rattle.narrow.specs.Looked.{Looked}
 use Rattle.narrow.proofs.Tops.{top-read, limbs-some, top-led}

@@ -1,3 +1,4 @@
+pub mod Unread
 pub mod Answered
 pub mod Rows
 pub mod Settled

@@ -1,11 +1,15 @@
 -- A regular operand beside a zero: its first column is its top limb, and where it fixes the answer, the limb is rounded to it. Assumes nothing.
 use mathlib.Core.Path.{_≡_, refl, sym, ap, _∙_}
-use mathlib.Core.Bool.{Bool, true, false, _||_, true≢false}
+use mathlib.Core.Logic.{inl, inr}
+use mathlib.Core.Bool.{Bool, true, false, not, _||_, true≢false}
 use mathlib.Core.List.{List, [], _∷_}
-use Prim.Native.Nat.{ℕ, _+_, _-_, _*_, _%_, _^_, _≤_, _<_}
+use Prim.Native.Nat.{ℕ, _+_, _-_, _*_, _/_, _%_, _^_, _≤_, _<_}
+use native.Mathlib.Nat.{div-add-mod, add-mul-mod-self-left}
 use native.Mathlib.Omega.{arith}
-use borrow.Author.Tests.{leb-false, lt-ltb}
-use lib.Dec.{leb}
+use borrow.Author.Tests.{leb-false, lt-ltb, eq-eqb}
+use lib.Dec.{leb, eqb}
+use lib.Ieee.{size}
+use lib.Pow.{pow-add}
 use Rattle.limb.specs.Carry.{bit}
 use Rattle.numbers.specs.Limits.{counted, leastPrecision}
 use Rattle.numbers.specs.Operand.{Operand, WellFormed}
@@ -13,6 +17,7 @@ use Rattle.numbers.proofs.Limits.{two-digits}
 use Rattle.rounding.specs.Mode.{Mode, modeOf, way}
 use Rattle.rounding.specs.Answer.{rounded}
 use Rattle.rounding.specs.Sum.{add}
+use Rattle.rounding.proofs.Order.{le-or-lt}
 use Rattle.depth.specs.Columns.{topExponent, limbsUsed}
 use Rattle.decide.specs.Decide.{decideAt}
 use Rattle.checks.specs.declared.Number.{Number}
@@ -25,13 +30,12 @@ use Rattle.walk.proofs.Sizes.{size-is}
 use Rattle.settle.specs.Rows.{rowOf}
 use Rattle.settle.specs.declared.rows.Row.the-variants.{Exact, Plus}
 use Rattle.bridge.specs.Verdict.{pairOf, Ordered, Leads, readSum}
-use Rattle.descent.specs.Course.{Inside}
 use Rattle.narrow.specs.declared.seeing.Seen.{Seen}
 use Rattle.narrow.specs.Sighting.{topLimb, Told}
 use Rattle.narrow.specs.Looked.{Looked}
-use Rattle.narrow.specs.Lone.{Beside, Lone}
-use Rattle.narrow.proofs.Answered.{exact-says, plus-says}
-use Rattle.narrow.proofs.Settled.{run-plain, limb-inside}
+use Rattle.narrow.specs.Lone.{Beside, Lone, Beyond}
+use Rattle.narrow.proofs.Answered.{exact-says, unread-says}
+use Rattle.narrow.proofs.Settled.{run-plain}
 use Rattle.narrow.proofs.Passed.{passes, run-told}
 use Rattle.narrow.proofs.Tops.{top-first, top-led}
 use Rattle.narrow.proofs.InOrder.{depth-one, first-used}
@@ -59,6 +63,23 @@ module _ (x z : Operand) (zero : z .isZero ≡ true) where
       flat : (n : ℕ) → n + 0 ≡ n
       flat n = omega arith
 
+-- ---- the digits below a half
+
+-- a limb moved up by p digits and one more loses those above
+pub rest-some : (p u : ℕ) → p ≤ 62 → not (eqb (u * 2 ^ (p + 1) % 2 ^ 64) 0) ≡ true → 1 ≤ u % 2 ^ (64 - p - 1)
+rest-some p u h n = elim (le-or-lt 1 (u % 2 ^ (64 - p - 1))) [ inl k ↦ k | inr k ↦ absurd (true≢false (sym n ∙ ap not (eq-eqb _ 0 (gone (omega arith))))) ]
+  where
+    base : 2 ^ 64 ≡ 2 ^ (64 - p - 1) * 2 ^ (p + 1)
+    base = ap (λ (m : ℕ). 2 ^ m) (let z : 64 ≡ 64 - p - 1 + (p + 1) = omega arith in z) ∙ pow-add 2 (64 - p - 1) (p + 1)
+
+    spread : (u q E F B : ℕ) → u ≡ E * q → B ≡ E * F → u * F ≡ 0 + B * q
+    spread u q E F B a b = rw (a, b) (omega arith)
+
+    gone : u % 2 ^ (64 - p - 1) ≡ 0 → u * 2 ^ (p + 1) % 2 ^ 64 ≡ 0
+    gone z =
+        let e : u ≡ 2 ^ (64 - p - 1) * (u / 2 ^ (64 - p - 1)) = sym (div-add-mod u (2 ^ (64 - p - 1))) ∙ rw z (omega arith) in
+        ap (λ (m : ℕ). m % 2 ^ 64) (spread u (u / 2 ^ (64 - p - 1)) (2 ^ (64 - p - 1)) (2 ^ (p + 1)) (2 ^ 64) e base) ∙ add-mul-mod-self-left 0 (2 ^ 64) (u / 2 ^ (64 - p - 1))
+
 -- ---- what the first column says
 
 module _ (p top u : ℕ) (l : Lone p top u) where
@@ -71,9 +92,9 @@ module _ (p top u : ℕ) (l : Lone p top u) where
   pub alone-passes : runRule p false (u ∷ []) (top - 128) ≡ 0
   alone-passes = passes p (l .least) (l .most) top (l .low) (l .high) false u some
 
-  module _ (first : ℕ) (inside : Bool) (lt : u < 2 ^ 64) (i : inside ≡ true → (1 ≤ u % 2 ^ (64 - p - 1)) × (u % 2 ^ (64 - p - 1) + 1 < 2 ^ (64 - p - 1))) (fixed : (leb first 64 || inside) ≡ true) where
-    rest-inside : inside ≡ true → Inside p u
-    rest-inside e = limb-inside p 64 u (size-is u 63 (l .led) lt) (omega (arith, l .most)) (omega arith) (i e)
+  module _ (first : ℕ) (rest : Bool) (lt : u < 2 ^ 64) (i : rest ≡ true → 1 ≤ u % 2 ^ (64 - p - 1)) (fixed : (leb first 64 || rest) ≡ true) where
+    beyond : rest ≡ true → Beyond p u
+    beyond e = let n : size u ≡ 64 = size-is u 63 (l .led) lt in record { longer = rw n (omega (arith, l .most)); some = rw n (i e) }
 
     says : (o : Mode) (x z : Operand) → Beside x z first top u
         → (decideAt o p x z 1 ≡ true) × (add o p x z ≡ rounded (way o (x .negative)) p (x .exponent - 128 - 1) (x .negative) (runNumber false (u ∷ []) 0 false))
@@ -94,7 +115,7 @@ module _ (p top u : ℕ) (l : Lone p top u) where
         go : (t : Bool) → leb first 64 ≡ t
             → (decideAt o p x z 1 ≡ true) × (add o p x z ≡ rounded (way o (x .negative)) p (x .exponent - 128 - 1) (x .negative) (2 * (readSum x z 1 * 2 ^ 64) + bit false))
         go true e = exact-says p positive o x z d lead (whole-row x z (b .zero) (length-is e))
-        go false e = plus-says p positive o x z d lead (rw D (rest-inside (sym (ap (λ (t : Bool). t || inside) e) ∙ fixed))) false false true (long-row x z (b .zero) (length-is e))
+        go false e = unread-says p positive o x z d lead (rw D (beyond (sym (ap (λ (t : Bool). t || rest) e) ∙ fixed))) (long-row x z (b .zero) (length-is e))
 
     pub alone-told : (mode : ℕ) (negative : Bool) (limb : ℕ) (placed : Placed) → placed ≡ roundedPlaced mode p negative (top - 128) false (u ∷ []) 0 false → limb ∷ [] ≡ roundedLimbs mode p negative (top - 128) false (u ∷ []) 0 false
         → (x z : Operand) → Beside x z first top u → negative ≡ x .negative → Told (modeOf mode) p x z limb placed

@@ -1,7 +1,8 @@
 -- What the code holds of an operand alone. Definitions only.
-use Prim.Native.Nat.{ℕ, _^_, _≤_}
+use Prim.Native.Nat.{ℕ, _-_, _%_, _^_, _≤_, _<_}
 use mathlib.Core.Path.{_≡_}
 use mathlib.Core.Bool.{true, false}
+use lib.Ieee.{size}
 use Rattle.numbers.specs.Limits.{leastPrecision, leastExponent, mostExponent}
 use Rattle.numbers.specs.Operand.{Operand, WellFormed}
 use Rattle.narrow.specs.Sighting.{topLimb}
@@ -23,3 +24,8 @@ pub record Lone (p top u : ℕ) : Type 0 where
   pub led : 2 ^ 63 ≤ u
   pub low : leastExponent ≤ top
   pub high : top ≤ mostExponent
+
+-- D has more than p digits, and those below the half of the last one kept are not all 0: whatever follows D, no tie and no exact number is near
+pub record Beyond (p D : ℕ) : Type 0 where
+  pub longer : p < size D
+  pub some : 1 ≤ D % 2 ^ (size D - p - 1)

@@ -1,7 +1,7 @@
 // What the first column of an operand alone fixes.
 ghost use mathlib.Core.Path.{_≡_};
 ghost use mathlib.Core.Bool.{true, false};
-ghost use Prim.Native.Nat.{_≤_};
+ghost use Prim.Native.Nat.{_-_, _%_, _^_, _≤_};
 ghost use Rattle.numbers.specs.Limits.{leastPrecision};
 ghost use Rattle.numbers.specs.Operand.{Operand, WellFormed};
 ghost use Rattle.rounding.specs.Mode.{modeOf};
@@ -14,12 +14,21 @@ use crate::seeing::Seen;
 use crate::seeing::nothing;
 use checks::Number;
 
-// What the first column of a regular operand beside a zero fixes: the column has all its digits, or those below the first p lie inside a half.
+// Whether the digits of a limb below the half of the last one kept are not all 0.
+fn has_rest(p: u64, u: u64) -> bool
+    requires { ⌜ p ≤ 62 ⌝ }
+    ensures { λ r. ⌜ (r ≡ true → 1 ≤ u % 2 ^ (64 - p - 1)) ⌝ }
+{
+    u << (p + 1) != 0
+}
+
+// What the first column of a regular operand beside a zero fixes: the column has all its digits, or those seen tell on which side of an exact
+// number and of a tie it lies.
 fn see_alone(mode: u8, negative: bool, p: u64, first: u64, top: u64, u: u64) -> Seen
     requires { ⌜ Lone p top u ⌝ }
     ensures { λ r. ⌜ (r .open ≡ false → (x z : Operand) → Beside x z first top u → negative ≡ x .negative → Told (modeOf mode) p x z (r .limb) (r .placed)) ⌝ }
 {
-    let fixed = (first <= 64) | descent::lies_inside(u, 64 - p);
+    let fixed = (first <= 64) | has_rest(p, u);
     if !fixed {
         return nothing();
     }

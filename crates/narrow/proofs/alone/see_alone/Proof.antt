@@ -9,11 +9,8 @@ use Rattle.narrow.proofs.Lone.{alone-passes, alone-told}
 use Rattle.narrow.proofs.alone.see_alone.Statement.{statement}
 use Rattle.narrow.proofs.alone.see_alone.Tie as tie
 
-sub-lies-inside : tie.Need-sub-lies-inside
-sub-lies-inside c = search needs
-
-lies-inside-requires : tie.Need-lies-inside-requires
-lies-inside-requires c κs = search needs
+has-rest-requires : tie.Need-has-rest-requires
+has-rest-requires c κs = search needs
 
 nothing-requires : tie.Need-nothing-requires
 nothing-requires c κs = search needs
@@ -33,7 +30,7 @@ returns-2 : tie.Need-returns-2
 returns-2 c =
     let b = c .before .before .before .before in
     let a = b .args in
-    let t = c .before .before .before .lies-inside in
+    let t = c .before .before .before .has-rest in
     let o = c .before .round-limb in
     let lt : a .u < 2 ^ 64 = search needs in
     λ e. alone-told (a .p) (a .top) (a .u) (b .pre) (a .first) (t .result) lt (t .ensures) (not-false _ (c .before .before .if1 .left)) (a .mode) (a .negative) (o .result .limb) (o .result .placed) (o .ensures .0) (o .ensures .1)
@@ -42,8 +39,7 @@ pub see-alone-spec : {M : Type 1} → statement M
 see-alone-spec =
     tie.close
     (tie.spec
-    sub-lies-inside
-    lies-inside-requires
+    has-rest-requires
     nothing-requires
     returns
     sub-round-limb
