@@ -9,16 +9,15 @@ use borrow.Author.Tests.{lt-ltb, le-ltb, le-leb, lt-leb, ne-eqb}
 use lib.Dec.{ltb, leb, eqb}
 use mir.Val.{boolByte}
 use lib.ListN.{length}
-use Rattle.numbers.specs.Limits.{counted, leastPrecision, mostPrecision, leastExponent, mostExponent, limbsFor}
+use Rattle.numbers.specs.Limits.{counted, leastPrecision, limbsFor}
 use Rattle.numbers.specs.Operand.{Operand, WellFormed}
-use Rattle.numbers.proofs.Limits.{two-digits, limbs-hold}
+use Rattle.numbers.proofs.Limits.{two-digits}
 use Rattle.rounding.specs.Mode.{Mode, modeOf}
 use Rattle.rounding.specs.Answer.{Answer}
 use Rattle.rounding.specs.Sum.{add}
 use Rattle.rounding.proofs.Order.{le-or-lt}
 use Rattle.rounding.proofs.Zeros.{add-commutes}
 use Rattle.depth.specs.Columns.{topExponent, limbsUsed}
-use Rattle.depth.specs.Depth.{plus, Depth}
 use Rattle.decide.proofs.Decision.{depth-decided}
 use Rattle.checks.specs.declared.Number.{Number}
 use Rattle.checks.specs.Number.{operandOf}
@@ -26,13 +25,12 @@ use Rattle.settle.specs.declared.rows.Pair.{Pair}
 use Rattle.walk.specs.Column.{readTo}
 use Rattle.bridge.specs.Verdict.{pairOf, Ordered}
 use Rattle.bridge.proofs.Read.{read-none}
-use Rattle.bridge.proofs.Told.{pair-gap, top-is}
+use Rattle.bridge.proofs.Told.{top-is}
 use Rattle.bridge.proofs.Exchange.{top-exchange, deciding-exchange}
 use Rattle.descent.specs.Course.{Course}
 use Rattle.ending.specs.Finishing.{Left, Signed}
 use Rattle.ending.proofs.Handed.{ordered-pair}
 use Rattle.narrow.specs.declared.seeing.Seen.{Seen}
-use Rattle.narrow.specs.declared.looking.Sight.{Sight}
 use Rattle.narrow.specs.Sighting.{topLimb, Held, Facing, Told}
 use Rattle.narrow.specs.Looked.{Looked}
 use Rattle.narrow.proofs.Tops.{top-read, limbs-some, top-led}
