@@ -24,6 +24,8 @@ use Rattle.bridge.proofs.FarHole.{far-fixed, far-sum, far-difference}
 use Rattle.bridge.proofs.Covered.{columns-above}
 use Rattle.descent.specs.Course.{Inside}
 use Rattle.descent.proofs.Inside.{inside-plus, inside-minus}
+use Rattle.narrow.specs.Lone.{Beyond}
+use Rattle.narrow.proofs.Unread.{beyond-settles}
 
 module _ (p : ℕ) (P : 0 < p) (o : Mode) (x y : Operand) (d : Ordered x y) (lead : Leads x y 1) where
   abbrev w : Way
@@ -61,16 +63,21 @@ module _ (p : ℕ) (P : 0 < p) (o : Mode) (x y : Operand) (d : Ordered x y) (lea
     deeper false (λ e. absurd (true≢false (sym e))) (row-sum o p P x y 1 d one lead Exact is (omega (arith, room)) refl),
   )
 
-  module _ (inside : Inside p D) where
-    inner-says : (row : Row) → rowOf (pairOf x y) 1 ≡ row → inner? row ≡ true → settledBy w p D row ≡ true → Says (2 * (D * 2 ^ 64) + bit (moreOf row))
-    inner-says row is inner e = (
-      tests-are o p P x y 1 d one lead row is inner ∙ rw e,
-      deeper (moreOf row) (λ m. enough-digits w p D (inside .longer)) (row-sum o p P x y 1 d one lead row is (omega (arith, room)) e),
-    )
+  inner-says : p < size D → (row : Row) → rowOf (pairOf x y) 1 ≡ row → inner? row ≡ true → settledBy w p D row ≡ true → Says (2 * (D * 2 ^ 64) + bit (moreOf row))
+  inner-says longer row is inner e = (
+    tests-are o p P x y 1 d one lead row is inner ∙ rw e,
+    deeper (moreOf row) (λ m. enough-digits w p D longer) (row-sum o p P x y 1 d one lead row is (omega (arith, room)) e),
+  )
 
+  -- one operand alone, of which digits are unread
+  pub unread-says : Beyond p D → rowOf (pairOf x y) 1 ≡ Plus false false true → Says (2 * (D * 2 ^ 64) + bit false)
+  unfolding settledBy moreOf inner? bit
+  unread-says beyond is = inner-says (beyond .longer) (Plus false false true) is refl (beyond-settles p D beyond w)
+
+  module _ (inside : Inside p D) where
     pub plus-says : (least next most : Bool) → rowOf (pairOf x y) 1 ≡ Plus least next most → Says (2 * (D * 2 ^ 64) + bit least)
     unfolding settledBy moreOf inner?
-    plus-says least next most is = inner-says (Plus least next most) is refl (inside-plus p D inside w least (bit next) (one-most next) most)
+    plus-says least next most is = inner-says (inside .longer) (Plus least next most) is refl (inside-plus p D inside w least (bit next) (one-most next) most)
       where
         one-most : (b : Bool) → bit b ≤ 1
         one-most true = unfold bit in omega arith
@@ -78,7 +85,7 @@ module _ (p : ℕ) (P : 0 < p) (o : Mode) (x y : Operand) (d : Ordered x y) (lea
 
     pub minus-says : (most : Bool) → rowOf (pairOf x y) 1 ≡ Minus most → Says (2 * (D * 2 ^ 64) + bit most)
     unfolding settledBy moreOf inner?
-    minus-says most is = inner-says (Minus most) is refl (inside-minus p D inside P w most)
+    minus-says most is = inner-says (inside .longer) (Minus most) is refl (inside-minus p D inside P w most)
 
   module _ (few : p ≤ 62) (is : rowOf (pairOf x y) 1 ≡ Hole) where
     far : 64 ≤ pairOf x y .gap

@@ -9,9 +9,9 @@ use borrow.Author.Tests.{lt-ltb, le-ltb, le-leb, lt-leb, ne-eqb}
 use lib.Dec.{ltb, leb, eqb}
 use mir.Val.{boolByte}
 use lib.ListN.{length}
-use Rattle.numbers.specs.Limits.{counted, leastPrecision, mostPrecision, leastExponent, mostExponent, limbsFor}
+use Rattle.numbers.specs.Limits.{counted, leastPrecision, limbsFor}
 use Rattle.numbers.specs.Operand.{Operand, WellFormed}
-use Rattle.numbers.proofs.Limits.{two-digits, limbs-hold}
+use Rattle.numbers.proofs.Limits.{two-digits}
 use Rattle.rounding.specs.Mode.{Mode, modeOf}
 use Rattle.rounding.specs.Answer.{Answer}
 use Rattle.rounding.specs.Sum.{add}
@@ -19,6 +19,7 @@ use Rattle.rounding.proofs.Order.{le-or-lt}
 use Rattle.rounding.proofs.Zeros.{add-commutes}
 use Rattle.depth.specs.Columns.{topExponent, limbsUsed}
 use Rattle.depth.specs.Depth.{plus, Depth}
+use Rattle.decide.specs.Decide.{decideAt}
 use Rattle.decide.proofs.Decision.{depth-decided}
 use Rattle.checks.specs.declared.Number.{Number}
 use Rattle.checks.specs.Number.{operandOf}
@@ -26,13 +27,12 @@ use Rattle.settle.specs.declared.rows.Pair.{Pair}
 use Rattle.columns.specs.Column.{readTo}
 use Rattle.bridge.specs.Verdict.{pairOf, Ordered}
 use Rattle.bridge.proofs.Read.{read-none}
-use Rattle.bridge.proofs.Told.{pair-gap, top-is}
+use Rattle.bridge.proofs.Told.{top-is}
 use Rattle.bridge.proofs.Exchange.{top-exchange, deciding-exchange}
 use Rattle.descent.specs.Course.{Course}
 use Rattle.ending.specs.Finishing.{Left, Signed}
 use Rattle.ending.proofs.Handed.{ordered-pair}
 use Rattle.narrow.specs.declared.seeing.Seen.{Seen}
-use Rattle.narrow.specs.declared.looking.Sight.{Sight}
 use Rattle.narrow.specs.Sighting.{topLimb, Held, Facing, Told}
 use Rattle.narrow.specs.Looked.{Looked}
 use Rattle.narrow.proofs.Tops.{top-read, limbs-some, top-led}
@@ -56,6 +56,24 @@ one-limb L d s = elim (le-or-lt 64 d) [ inl h ↦ rw (le-ltb d 64 h, le-leb (64 
 used-at : (z : Operand) (t d : ℕ) → WellFormed z → z .isZero ≡ false → d ≡ t - z .exponent → cond (ltb d 64) 1 0 ≡ limbsUsed t 1 z
 unfolding limbsUsed
 used-at z t d g r e = rw (r, ← e) (one-limb (limbsFor (z .precision)) d (rw (g .count) at (limbs-some z g)))
+
+-- ---- the depth, and the top that the limbs are counted from
+
+module _ (o : Mode) (p : ℕ) (positive : 0 < p) (x y : Operand) (d : Ordered x y) where
+  pub depth-one : decideAt o p x y 1 ≡ true → Depth plus o p x y 1
+  depth-one fixed = record {
+    zeros = λ h. absurd (true≢false (sym h ∙ rw (d .regular) refl));
+    deciding = λ h. depth-decided o p positive x y (d .first) (d .second) 1 (omega arith) fixed (λ h. absurd (omega arith));
+  }
+
+  pub top-one : topExponent x y ≡ x .exponent
+  top-one = top-is o p positive x y 1 d (omega arith)
+
+  pub first-used : 1 ≡ limbsUsed (topExponent x y) 1 x
+  first-used = used-at x (topExponent x y) 0 (d .first) (d .regular) (rw top-one (apart (x .exponent)))
+    where
+      apart : (n : ℕ) → 0 ≡ n - n
+      apart n = omega arith
 
 module _ (mode p : ℕ) (least : leastPrecision ≤ p) where
   abbrev o : Mode
@@ -91,19 +109,13 @@ module _ (mode p : ℕ) (least : leastPrecision ≤ p) where
     told : Told o p x y (s .limb) (s .placed)
     told = says .1 closed x y (record { course = course; regular = e; pair-is = refl; first-top = f; second-top = g }) refl
 
-    top : topExponent x y ≡ x .exponent
-    top = top-is o p positive x y 1 d (omega arith)
-
-    apart : (n : ℕ) → 0 ≡ n - n
-    apart n = omega arith
-
     pub ordered-looked : (i j : ℕ) → i ≡ 1 → j ≡ cond (ltb (x .exponent - y .exponent) 64) 1 0 → Looked o p x y (record { seen = s; negative = x .negative; first = i; second = j })
     ordered-looked i j a b = record {
-      depth = record { zeros = λ h. absurd (true≢false (sym h ∙ rw (d .regular) refl)); deciding = λ h. depth-decided o p positive x y (d .first) (d .second) 1 (omega arith) (told .fixed) (λ h. absurd (omega arith)) };
+      depth = depth-one o p positive x y d (told .fixed);
       left = told .left;
       signed = told .signed;
-      first = a ∙ used-at x (topExponent x y) 0 (d .first) (d .regular) (rw top (apart (x .exponent)));
-      second = b ∙ used-at y (topExponent x y) (x .exponent - y .exponent) (d .second) e (rw top refl);
+      first = a ∙ first-used o p positive x y d;
+      second = b ∙ used-at y (topExponent x y) (x .exponent - y .exponent) (d .second) e (rw (top-one o p positive x y d) refl);
     }
 
   -- the other way round

@@ -55,7 +55,7 @@ read-difference s u v e = rw e refl
 
 -- ---- the number of a run
 
-run-plain : (carry : Bool) (limb : ℕ) (more : Bool) (D : ℕ) → limb + 2 ^ 64 * bit carry ≡ D → runNumber carry (limb ∷ []) 0 more ≡ 2 * (D * 2 ^ 64) + bit more
+pub run-plain : (carry : Bool) (limb : ℕ) (more : Bool) (D : ℕ) → limb + 2 ^ 64 * bit carry ≡ D → runNumber carry (limb ∷ []) 0 more ≡ 2 * (D * 2 ^ 64) + bit more
 unfolding runNumber valueIn
 run-plain carry limb more D e = go (bit carry) limb (bit more) (2 ^ 64) D e
   where

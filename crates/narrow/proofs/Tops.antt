@@ -1,39 +1,31 @@
 -- The first column of two operands comes from their top limbs, and the run that it fixes is rounded to their sum. Assumes nothing.
 use mathlib.Core.Path.{_≡_, refl, sym, ap, _∙_}
-use mathlib.Core.Bool.{Bool, true, false, _&&_, _||_}
+use mathlib.Core.Bool.{Bool, true, false}
 use mathlib.Core.List.{List, [], _∷_}
 use Prim.Native.Nat.{ℕ, suc, _+_, _-_, _*_, _/_, _^_, _≤_, _<_}
 use native.Mathlib.Nat.{div-div-eq-div-mul}
 use native.Mathlib.Omega.{arith}
-use borrow.Author.Tests.{lt-ltb, le-leb, eq-eqb}
-use lib.Dec.{ltb, leb, eqb}
 use lib.ListN.{length, getD, drop, drop-of-length-le}
 use lib.Pow.{pow-add}
 use Rattle.limb.specs.Value.{valueOf, Below}
 use Rattle.limb.proofs.Value.{value-nil, value-drop, value-shr, base-pow}
-use Rattle.numbers.specs.Limits.{bias, leastPrecision, mostPrecision, leastExponent, mostExponent, limbsFor}
 use Rattle.numbers.specs.Operand.{Operand, WellFormed}
 use Rattle.numbers.proofs.Limits.{two-digits, limbs-hold}
-use Rattle.rounding.specs.Mode.{modeOf, way}
-use Rattle.rounding.specs.Answer.{rounded}
-use Rattle.rounding.specs.Sum.{add}
-use Rattle.decide.specs.Decide.{decideAt}
+use Rattle.rounding.specs.Mode.{modeOf}
 use Rattle.checks.proofs.Form.{lead-top-bit}
 use Rattle.place.specs.declared.Placed.{Placed}
-use Rattle.place.specs.Placed.{runNumber, runAnswer, runRule, placedOf, limbsAfter}
+use Rattle.place.specs.Placed.{runRule}
 use Rattle.place.specs.Rounded.{roundedPlaced, roundedLimbs}
-use Rattle.place.proofs.Answer.{placed-passed, limbs-passed}
-use Rattle.place.proofs.Rules.{rule-none}
 use Rattle.columns.specs.Column.{readTo}
 use Rattle.leap.proofs.Leaping.{read-down}
 use Rattle.settle.specs.declared.rows.Pair.{Pair}
 use Rattle.bridge.specs.Verdict.{pairOf, readSum}
 use Rattle.bridge.proofs.Told.{pair-top}
-use Rattle.ending.proofs.RegularEnd.{rounded-signed}
 use Rattle.narrow.specs.declared.column.Column.{Column}
 use Rattle.narrow.specs.Sighting.{topLimb, Held, Facing, Told}
 use Rattle.narrow.specs.Column.{firstRead, Found}
 use Rattle.narrow.proofs.Settled.{read-sum, read-difference}
+use Rattle.narrow.proofs.Passed.{passes, run-told}
 
 -- ---- the top limb is the first column
 
@@ -61,12 +53,15 @@ pub top-led : (x : Operand) → WellFormed x → x .isZero ≡ false → 2 ^ 63 
 unfolding topLimb
 top-led x g r = rw (g .count) (lead-top-bit (x .limbs) (g .limb) _ (rw (g .count) at (limbs-some x g)) (g .count) (g .regular r .lead))
 
+pub top-first : (x : Operand) → WellFormed x → readTo 1 0 (x .limbs) ≡ topLimb (x .limbs)
+top-first x g = top-read 0 (x .limbs) (g .limb) (limbs-some x g) ∙ whole (topLimb (x .limbs))
+  where
+    whole : (n : ℕ) → n / 2 ^ 0 ≡ n
+    whole n = omega arith
+
 module _ (x y : Operand) (pair : Pair) (u v : ℕ) (h : Held x y pair u v) where
   first-read : readTo 1 0 (x .limbs) ≡ u
-  first-read = top-read 0 (x .limbs) (h .course .ordered .first .limb) (limbs-some x (h .course .ordered .first)) ∙ whole (topLimb (x .limbs)) ∙ sym (h .first-top)
-    where
-      whole : (n : ℕ) → n / 2 ^ 0 ≡ n
-      whole n = omega arith
+  first-read = top-first x (h .course .ordered .first) ∙ sym (h .first-top)
 
   second-read : readTo 1 (pairOf x y .gap) (y .limbs) ≡ v / 2 ^ pair .gap
   second-read =
@@ -95,61 +90,12 @@ module _ (x y : Operand) (pair : Pair) (u v : ℕ) (h : Held x y pair u v) where
 
 -- ---- the run
 
-pub top-high : (p : ℕ) (pair : Pair) (u : ℕ) → Facing p pair u → 128 ≤ pair .top
-unfolding leastExponent bias
-top-high p pair u f = omega (arith, f .low)
-
 module _ (p : ℕ) (pair : Pair) (u v : ℕ) (f : Facing p pair u) (r : Column) (found : Found p pair u v r) where
-  abbrev unit : ℕ
-  unit = pair .top - 128
+  pub run-passes : runRule p (r .carry) (r .limb ∷ []) (pair .top - 128) ≡ 0
+  run-passes = passes p (f .least) (f .most) (pair .top) (f .low) (f .high) (r .carry) (r .limb) (found .settles .led)
 
-  pub unit-least : 64 < unit
-  unfolding leastExponent bias
-  unit-least = omega (arith, f .low)
-
-  pub unit-most : unit < 2 * mostExponent
-  unfolding mostExponent bias
-  unit-most = omega (arith, f .high)
-
-  pub run-passes : runRule p (r .carry) (r .limb ∷ []) unit ≡ 0
-  run-passes = sym (rule-none p (r .carry) (r .limb ∷ []) unit precision one weight (first (r .carry) refl))
-    where
-      few : p ≤ mostPrecision
-      few = unfold mostPrecision in omega (arith, f .most)
-
-      precision : (leb leastPrecision p && leb p mostPrecision) ≡ true
-      precision = rw (le-leb leastPrecision p (f .least), le-leb p mostPrecision few) refl
-
-      one : eqb 1 (limbsFor p) ≡ true
-      one = eq-eqb 1 (limbsFor p) (unfold limbsFor in omega (arith, f .most, f .least, two-digits))
-
-      weight : (ltb 0 unit && leb unit (2 * mostExponent)) ≡ true
-      weight = rw (lt-ltb 0 unit (omega (arith, unit-least)), le-leb unit (2 * mostExponent) (omega (arith, unit-most))) refl
-
-      first : (c : Bool) → r .carry ≡ c → (c || ltb 0 (r .limb)) ≡ true
-      first true e = refl
-      first false e = lt-ltb 0 (r .limb) (found .settles .led e)
-
-  abbrev N : ℕ
-  N = runNumber (r .carry) (r .limb ∷ []) (r .guard) (r .more)
-
-  pub told : (mode : ℕ) (negative : Bool) (limb : ℕ) (placed : Placed) → placed ≡ roundedPlaced mode p negative unit (r .carry) (r .limb ∷ []) (r .guard) (r .more)
-      → limb ∷ [] ≡ roundedLimbs mode p negative unit (r .carry) (r .limb ∷ []) (r .guard) (r .more) → (x y : Operand) → Held x y pair u v → negative ≡ x .negative → Told (modeOf mode) p x y limb placed
-  unfolding runAnswer
+  pub told : (mode : ℕ) (negative : Bool) (limb : ℕ) (placed : Placed) → placed ≡ roundedPlaced mode p negative (pair .top - 128) (r .carry) (r .limb ∷ []) (r .guard) (r .more)
+      → limb ∷ [] ≡ roundedLimbs mode p negative (pair .top - 128) (r .carry) (r .limb ∷ []) (r .guard) (r .more) → (x y : Operand) → Held x y pair u v → negative ≡ x .negative → Told (modeOf mode) p x y limb placed
   told mode negative limb placed e g x y h sign =
-      record {
-        fixed = says .0;
-        left = record {
-          told = e ∙ placed-passed mode p negative unit (r .carry) (r .limb ∷ []) (r .guard) (r .more) run-passes ∙ ap placedOf is;
-          limbs = g ∙ limbs-passed mode p negative unit (r .carry) (r .limb ∷ []) (r .guard) (r .more) run-passes ∙ ap (limbsAfter p) is;
-        };
-        signed = rw (says .1) (rounded-signed _ _ _ _ _);
-      }
-    where
-      says : (decideAt (modeOf mode) p x y 1 ≡ true) × (add (modeOf mode) p x y ≡ rounded (way (modeOf mode) (x .negative)) p (x .exponent - 128 - 1) (x .negative) N)
-      says = found .settles .answers (modeOf mode) x y (h .course .ordered) (h .regular) (h .pair-is) (h .course .larger) (read-is x y pair u v h)
-
-      is : runAnswer mode p negative unit N ≡ add (modeOf mode) p x y
-      is =
-          ap (λ (n : ℕ). rounded (way (modeOf mode) negative) p (n - 128 - 1) negative N) (ap (λ (s : Pair). s .top) (h .pair-is) ∙ pair-top x y)
-          ∙ ap (λ (b : Bool). rounded (way (modeOf mode) b) p (x .exponent - 128 - 1) b N) sign ∙ sym (says .1)
+      run-told p (f .least) (f .most) (pair .top) (f .low) (f .high) (r .carry) (r .limb) (found .settles .led) (r .guard) (r .more) mode negative limb placed e g x y (ap (λ (s : Pair). s .top) (h .pair-is) ∙ pair-top x y) sign
+      (found .settles .answers (modeOf mode) x y (h .course .ordered) (h .regular) (h .pair-is) (h .course .larger) (read-is x y pair u v h))

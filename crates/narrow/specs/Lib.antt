@@ -1,3 +1,4 @@
 pub mod Sighting
 pub mod Column
 pub mod Looked
+pub mod Lone

@@ -1,4 +1,4 @@
--- What a look at two regular operands tells where it is not left open. Definitions only.
+-- What a look at two operands, or at one beside a zero, tells where it is not left open. Definitions only.
 use Prim.Native.Nat.{ℕ}
 use mathlib.Core.Path.{_≡_}
 use mathlib.Core.List.{[], _∷_}

@@ -7,7 +7,9 @@
 mod column; // column.rt: the first column as a run to be rounded
 mod seeing; // seeing.rt: the run rounded
 mod looking; // looking.rt: the same of two operands in any order
+mod alone; // alone.rt: the same of an operand alone
 
+pub use alone::look_alone;
 pub use looking::Sight;
 pub use looking::look;
 pub use seeing::Seen;

@@ -17,7 +17,7 @@ pub struct Seen {
 }
 
 // Nothing yet.
-fn nothing() -> Seen
+pub fn nothing() -> Seen
     ensures { λ r. ⌜ r .open ≡ true ⌝ }
 {
     Seen {

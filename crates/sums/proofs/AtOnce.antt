@@ -2,7 +2,7 @@
 use mathlib.Core.Path.{_≡_, refl, sym, ap, _∙_}
 use mathlib.Core.Bool.{Bool, true, false, not, _&&_, true≢false}
 use mathlib.Core.List.{List, [], _∷_}
-use Prim.Native.Nat.{ℕ, _+_, _/_, _≤_, _<_}
+use Prim.Native.Nat.{ℕ, _+_, _/_, _≤_}
 use native.Mathlib.Omega.{arith}
 use borrow.Author.Tests.{leb-true}
 use lib.Dec.{leb}
@@ -94,3 +94,17 @@ module _ {a b x y : Number} (mode p : ℕ) (xl yl : List ℕ) (i : a ≡ x) (j :
 
   pub copies-reported : (exit : List ℕ) (s : Sum) → Reported plus (modeOf mode) p (operandOf a xl) (operandOf b yl) exit s → Reported plus (modeOf mode) p (operandOf x xl) (operandOf y yl) exit s
   copies-reported exit s h = rw (i, j) at h
+
+module _ {a x : Number} (xl : List ℕ) (i : a ≡ x) where
+  pub copy-formed : WellFormed (operandOf x xl) → WellFormed (operandOf a xl)
+  copy-formed h = rw i h
+
+  pub copy-kind : {b : Bool} → operandOf a xl .isZero ≡ b → operandOf x xl .isZero ≡ b
+  copy-kind h = rw i at h
+
+  pub copy-doubled : (mode p : ℕ) (exit : List ℕ) (s : Sum) → Reported plus (modeOf mode) p (operandOf a xl) (operandOf a xl) exit s → Reported plus (modeOf mode) p (operandOf x xl) (operandOf x xl) exit s
+  copy-doubled mode p exit s h = rw i at h
+
+  pub copy-alone : (mode p : ℕ) (exit : List ℕ) (s : Sum) → ((z : Operand) → WellFormed z → z .isZero ≡ true → Reported plus (modeOf mode) p (operandOf a xl) z exit s)
+      → (z : Operand) → WellFormed z → z .isZero ≡ true → Reported plus (modeOf mode) p (operandOf x xl) z exit s
+  copy-alone mode p exit s h = rw i at h

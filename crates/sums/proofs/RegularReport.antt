@@ -1,6 +1,6 @@
 -- What a walk's end gives to report, of a regular number and a zero and of two in order. Assumes nothing.
 use mathlib.Core.Path.{_≡_, refl, sym, ap, _∙_, subst}
-use mathlib.Core.Bool.{Bool, true, false, not, cond, Bool·beq, true≢false}
+use mathlib.Core.Bool.{true, false, not, cond, Bool·beq, true≢false}
 use mathlib.Core.List.{List}
 use Prim.Native.Nat.{ℕ, _-_, _^_, _≤_, max, zero-le}
 use native.Mathlib.Omega.{arith}

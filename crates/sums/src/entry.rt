@@ -142,7 +142,7 @@ pub fn subtract(
     add(mode, x, xl, checks::turn_sign(y), yl, p, target)
 }
 
-// x alone, rounded to p digits: reports as the addition of a zero.
+// x alone, rounded to p digits, at once where the first column fixes it: reports as the addition of a zero.
 pub fn reround(mode: u8, x: Number, xl: &[u64], p: u64, target: &mut [u64]) -> Sum
     ensures { λ r. ⌜ Rerounded mode x (now (xl .entry)) p (now (target .entry)) (now (target .exit)) r ⌝ }
 {
@@ -150,8 +150,18 @@ pub fn reround(mode: u8, x: Number, xl: &[u64], p: u64, target: &mut [u64]) -> S
     if refusal.rule != 0 {
         return refused(refusal, 0, 0, 0);
     }
-    if checks::is_zero(x) {
-        return zeros(mode, x, x, p, target);
+    if is_narrow(p, x, x) {
+        let sight = narrow::look_alone(mode, x, xl, p);
+        let told = sight.seen;
+        if !told.open {
+            let placed = told.placed;
+            target[0] = told.limb;
+            return answered(placed, sight.negative, p, 1, sight.first, sight.second);
+        }
     }
-    single(mode, x, xl, p, target)
+    let alike = checks::copied(x);
+    if checks::is_zero(alike) {
+        return zeros(mode, alike, alike, p, target);
+    }
+    single(mode, alike, xl, p, target)
 }

@@ -2,7 +2,8 @@
 use mathlib.Core.Path.{sym, _∙_}
 use mathlib.Core.Bool.{true≢false}
 use borrow.Author.Tests.{not-false}
-use Rattle.narrow.proofs.Tops.{top-high, unit-least, unit-most, run-passes, told}
+use Rattle.narrow.proofs.Passed.{top-high, unit-least, unit-most}
+use Rattle.narrow.proofs.Tops.{run-passes, told}
 use borrow.Author.Needs.{needs}
 use Rattle.narrow.proofs.seeing.see.Statement.{statement}
 use Rattle.narrow.proofs.seeing.see.Tie as tie
@@ -17,7 +18,7 @@ returns : tie.Need-returns
 returns c = (λ e. absurd (true≢false (sym (c .nothing .ensures) ∙ e)), λ e. absurd (true≢false (sym (c .nothing .ensures) ∙ e)))
 
 sub-round-one : tie.Need-sub-round-one
-sub-round-one c = top-high _ _ _ (c .before .before .before .before .pre)
+sub-round-one c = top-high _ (c .before .before .before .before .pre .low)
 
 round-one-requires : tie.Need-round-one-requires
 round-one-requires c κs =
@@ -25,7 +26,7 @@ round-one-requires c κs =
     let a = b .args in
     let r = c .before .before .before .column-of in
     let found = r .ensures (not-false (r .result .fixed) (c .before .if1 .left)) in
-    (run-passes (a .p) (a .pair) (a .u) (a .v) (b .pre) (r .result) found, unit-least (a .p) (a .pair) (a .u) (a .v) (b .pre) (r .result) found, unit-most (a .p) (a .pair) (a .u) (a .v) (b .pre) (r .result) found)
+    (run-passes (a .p) (a .pair) (a .u) (a .v) (b .pre) (r .result) found, unit-least _ (b .pre .low), unit-most _ (b .pre .high))
 
 returns-2 : tie.Need-returns-2
 returns-2 c =

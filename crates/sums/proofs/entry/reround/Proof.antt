@@ -1,5 +1,10 @@
--- `entry::reround`: what is refused leaves the target untouched; a zero is added to itself, and a regular number to the zero like it. Assumes nothing.
+-- `entry::reround`: what is refused leaves the target untouched; a look at the first column tells a regular number, or the walk reports it beside the zero like it; a zero
+-- is added to itself. Assumes nothing.
+use mathlib.Core.Path.{refl}
+use native.Mathlib.Omega.{arith}
 use borrow.Author.Needs.{needs}
+use borrow.Author.Tests.{not-true}
+use Rattle.sums.proofs.AtOnce.{one-limb, looked-reported, copy-formed, copy-kind, copy-doubled, copy-alone}
 use Rattle.sums.proofs.Entries.{kind-told, single-ready, single-refused, zero-rerounded, regular-rerounded}
 use Rattle.sums.proofs.entry.reround.Statement.{statement}
 use Rattle.sums.proofs.entry.reround.Tie as tie
@@ -13,44 +18,63 @@ refused-requires c κs = search needs
 returns : tie.Need-returns
 returns c = single-refused _ _ _ _ _ _ (c .before .before .before .check-single .ensures) (c .before .if1 .taken) (c .refused .ensures)
 
-is-zero-requires : tie.Need-is-zero-requires
-is-zero-requires c κs = search needs
+is-narrow-requires : tie.Need-is-narrow-requires
+is-narrow-requires c κs = search needs
 
-zeros-requires : tie.Need-zeros-requires
-zeros-requires c κs =
-    let k = c .before .before .before in
-    let j = k .before .before in
-    single-ready _ _ _ _ (j .before .before .before .args .target .now) _ (j .check-single .ensures) (k .if1 .left) (λ i. j .before .before .shared-slice-known .given i .fits) .2
+look-alone-requires : tie.Need-look-alone-requires
+look-alone-requires c κs =
+    let g = single-ready _ _ _ _ (c .before .before .before .before .before .before .before .args .target .now) _ (c .before .before .before .before .check-single .ensures) (c .before .before .if1 .left) (λ i. c .before .before .before .before .before .before .shared-slice-known .given i .fits) in
+    let t = c .before .is-narrow .ensures (c .if2 .taken) in
+    (g .1, kind-told _ _ refl (t .1), g .2 .least, t .0)
+
+slice-write-target : tie.Need-slice-write-target
+slice-write-target c =
+    let g = single-ready _ _ _ _ (c .before .before .before .before .before .before .before .before .before .before .before .before .args .target .now) _ (c .before .before .before .before .before .before .before .before .before .check-single .ensures) (c .before .before .before .before .before .before .before .if1 .left) (λ i. c .before .before .before .before .before .before .before .before .before .before .before .shared-slice-known .given i .fits) in
+    let t = c .before .before .before .before .before .before .is-narrow .ensures (c .before .before .before .before .before .if2 .taken) in
+    omega (arith, one-limb _ _ (g .2) (t .0))
+
+answered-requires : tie.Need-answered-requires
+answered-requires c κs = search needs
 
 same-length : tie.Need-same-length
 same-length c = search needs
 
 returns-2 : tie.Need-returns-2
 returns-2 c =
-    let z = c .before .before in
-    let t = z .before .before in
-    let k = t .before .before in
-    let j = k .before .before in
-    let e = kind-told _ _ (t .before .is-zero .ensures) (t .if2 .taken) in
-    zero-rerounded _ _ _ _ _ _ (j .check-single .ensures) (k .if1 .left) (λ i. j .before .before .shared-slice-known .given i .fits) e (z .zeros .ensures _ _ e e)
+    let g = single-ready _ _ _ _ (c .before .before .before .before .before .before .before .before .before .before .before .before .before .args .target .now) _ (c .before .before .before .before .before .before .before .before .before .before .check-single .ensures) (c .before .before .before .before .before .before .before .before .if1 .left) (λ i. c .before .before .before .before .before .before .before .before .before .before .before .before .shared-slice-known .given i .fits) in
+    let t = c .before .before .before .before .before .before .before .is-narrow .ensures (c .before .before .before .before .before .before .if2 .taken) in
+    regular-rerounded _ _ _ _ _ _ (c .before .before .before .before .before .before .before .before .before .before .check-single .ensures) (c .before .before .before .before .before .before .before .before .if1 .left) (λ i. c .before .before .before .before .before .before .before .before .before .before .before .before .shared-slice-known .given i .fits)
+    (λ z h e. looked-reported _ _ _ _ (c .before .before .before .before .before .look-alone .result) (c .before .before .before .before .before .before .before .before .before .before .before .before .before .args .target .now) (g .2) (t .0) (c .before .before .before .before .before .look-alone .ensures (not-true _ (c .before .before .if3 .taken)) z h e) (c .answered .ensures))
 
-single-requires : tie.Need-single-requires
-single-requires c κs =
-    let t = c .before in
-    let k = t .before .before in
-    let j = k .before .before in
-    let g = single-ready _ _ _ _ (j .before .before .before .args .target .now) _ (j .check-single .ensures) (k .if1 .left) (λ i. j .before .before .shared-slice-known .given i .fits) in
-    (g .0, g .1, kind-told _ _ (t .before .is-zero .ensures) (t .if2 .left), g .2)
+copied-requires : tie.Need-copied-requires
+copied-requires c κs = search needs
+
+is-zero-requires : tie.Need-is-zero-requires
+is-zero-requires c κs = search needs
+
+zeros-requires : tie.Need-zeros-requires
+zeros-requires c κs = single-ready _ _ _ _ (c .before .before .before .before .before .before .before .before .before .before .before .args .target .now) _ (c .before .before .before .before .before .before .before .before .check-single .ensures) (c .before .before .before .before .before .before .if1 .left) (λ i. c .before .before .before .before .before .before .before .before .before .before .shared-slice-known .given i .fits) .2
 
 same-length-2 : tie.Need-same-length-2
 same-length-2 c = search needs
 
 returns-3 : tie.Need-returns-3
 returns-3 c =
-    let z = c .before .before in
-    let k = z .before .before .before .before in
-    let j = k .before .before in
-    regular-rerounded _ _ _ _ _ _ (j .check-single .ensures) (k .if1 .left) (λ i. j .before .before .shared-slice-known .given i .fits) (z .single .ensures)
+    let i = c .before .before .before .before .before .before .copied .ensures in
+    let e = kind-told _ _ (c .before .before .before .before .before .is-zero .ensures) (c .before .before .before .before .if4 .taken) in
+    zero-rerounded _ _ _ _ _ _ (c .before .before .before .before .before .before .before .before .before .before .before .check-single .ensures) (c .before .before .before .before .before .before .before .before .before .if1 .left) (λ i. c .before .before .before .before .before .before .before .before .before .before .before .before .before .shared-slice-known .given i .fits) (copy-kind _ i e) (copy-doubled _ i _ _ _ _ (c .before .before .zeros .ensures _ _ e e))
+
+single-requires : tie.Need-single-requires
+single-requires c κs =
+    let g = single-ready _ _ _ _ (c .before .before .before .before .before .before .before .before .before .before .before .args .target .now) _ (c .before .before .before .before .before .before .before .before .check-single .ensures) (c .before .before .before .before .before .before .if1 .left) (λ i. c .before .before .before .before .before .before .before .before .before .before .shared-slice-known .given i .fits) in
+    (g .0, copy-formed _ (c .before .before .before .copied .ensures) (g .1), kind-told _ _ (c .before .before .is-zero .ensures) (c .before .if4 .left), g .2)
+
+same-length-3 : tie.Need-same-length-3
+same-length-3 c = search needs
+
+returns-4 : tie.Need-returns-4
+returns-4 c =
+    regular-rerounded _ _ _ _ _ _ (c .before .before .before .before .before .before .before .before .before .before .before .check-single .ensures) (c .before .before .before .before .before .before .before .before .before .if1 .left) (λ i. c .before .before .before .before .before .before .before .before .before .before .before .before .before .shared-slice-known .given i .fits) (copy-alone _ (c .before .before .before .before .before .before .copied .ensures) _ _ _ _ (c .before .before .single .ensures))
 
 pub reround-spec : {M : Type 1} → statement M
 reround-spec =
@@ -59,10 +83,17 @@ reround-spec =
     check-single-requires
     refused-requires
     returns
-    is-zero-requires
-    zeros-requires
+    is-narrow-requires
+    look-alone-requires
+    slice-write-target
+    answered-requires
     same-length
     returns-2
-    single-requires
+    copied-requires
+    is-zero-requires
+    zeros-requires
     same-length-2
-    returns-3)
+    returns-3
+    single-requires
+    same-length-3
+    returns-4)
