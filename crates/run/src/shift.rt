@@ -68,8 +68,9 @@ fn pairs(room: usize, count: usize) -> usize
     if count == 0 { 0 } else { count - 1 }
 }
 
-// The run moved down by less than a limb. Where two limbs of it meet there is no end to look for, and the loop takes several limbs a turn: the
-// upper limb is moved in two steps, which a processor does for many limbs at once, and which may be by 64 in all.
+// The run moved down by less than a limb. As far as its limbs meet in pairs there is no end to look for, and the loop takes several limbs a turn.
+// The upper limb goes up in two steps, by 1 bit and by the others: in one step the compiler would join both shifts of a pair, which is done pair
+// by pair, and a move by no bit would be a shift by 64.
 fn move_into(target: &mut [u64], s: &[u64], bits: usize)
     requires { ⌜ bits < 64 ⌝ }
     ensures { λ r. ⌜ LowLimbs (length (now (target .entry))) (valueOf (now (s .entry)) / 2 ^ bits) (now (target .exit)) ⌝ }
@@ -83,8 +84,8 @@ fn move_into(target: &mut [u64], s: &[u64], bits: usize)
     windows_into(&mut target[i..], part_from(s, i), bits)
 }
 
-// The run moved down by k bits, into the whole target. A few limbs are written window by window; what the loops over several limbs a turn
-// need before they start would cost more than they save.
+// The run moved down by k bits, into the whole target. A few limbs go window by window: what the other two ways do before they start would cost
+// more than they save.
 pub fn shift_down_into(target: &mut [u64], s: &[u64], k: usize)
     ensures { λ r. ⌜ LowLimbs (length (now (target .entry))) (valueOf (now (s .entry)) / 2 ^ k) (now (target .exit)) ⌝ }
 {
