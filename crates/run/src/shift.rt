@@ -84,22 +84,22 @@ fn move_into(target: &mut [u64], s: &[u64], bits: usize)
     windows_into(&mut target[i..], part_from(s, i), bits)
 }
 
-// The run moved down by k bits, into the whole target. A few limbs go window by window: what the other two ways do before they start would cost
-// more than they save.
+// The run moved down by k bits, into the whole target. A few limbs go window by window: what move_into does before its loop starts would
+// cost more than it saves.
 pub fn shift_down_into(target: &mut [u64], s: &[u64], k: usize)
     ensures { λ r. ⌜ LowLimbs (length (now (target .entry))) (valueOf (now (s .entry)) / 2 ^ k) (now (target .exit)) ⌝ }
 {
     let part = part_from(s, k / 64);
     let bits = k % 64;
-    if target.len() < 8 {
-        windows_into(target, part, bits);
-        return;
-    }
     if bits == 0 {
         if target.len() <= part.len() {
             copy_into(target, part);
             return;
         }
+    }
+    if target.len() < 8 {
+        windows_into(target, part, bits);
+        return;
     }
     move_into(target, part, bits)
 }

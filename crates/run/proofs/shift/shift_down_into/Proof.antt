@@ -7,8 +7,8 @@ use Rattle.run.proofs.shift.shift_down_into.Tie as tie
 part-from-requires : tie.Need-part-from-requires
 part-from-requires c κs = search needs
 
-windows-into-requires : tie.Need-windows-into-requires
-windows-into-requires c κs = search needs
+copy-into-requires : tie.Need-copy-into-requires
+copy-into-requires c κs = search needs
 
 same-length : tie.Need-same-length
 same-length c = search needs
@@ -16,12 +16,12 @@ same-length c = search needs
 returns : tie.Need-returns
 returns c =
     let b = c .before .before in
-    let p = b .before .before .before in
+    let p = b .before .before .before .before in
     let g = p .before .before .before .args in
-    rw (p .part-from .ensures, moved-down (g .s .now) (g .k) (λ i. p .before .shared-slice-known .given i .fits)) at (b .windows-into .ensures)
+    rw (p .part-from .ensures, moved-down-whole (g .s .now) (g .k) (λ i. p .before .shared-slice-known .given i .fits) (b .before .before .before .if1 .taken)) at (b .copy-into .ensures)
 
-copy-into-requires : tie.Need-copy-into-requires
-copy-into-requires c κs = search needs
+windows-into-requires : tie.Need-windows-into-requires
+windows-into-requires c κs = search needs
 
 same-length-2 : tie.Need-same-length-2
 same-length-2 c = search needs
@@ -29,9 +29,9 @@ same-length-2 c = search needs
 returns-2 : tie.Need-returns-2
 returns-2 c =
     let b = c .before .before in
-    let p = b .before .before .before .before .before in
+    let p = b .before .before .before .before in
     let g = p .before .before .before .args in
-    rw (p .part-from .ensures, moved-down-whole (g .s .now) (g .k) (λ i. p .before .shared-slice-known .given i .fits) (b .before .before .before .if2 .taken)) at (b .copy-into .ensures)
+    rw (p .part-from .ensures, moved-down (g .s .now) (g .k) (λ i. p .before .shared-slice-known .given i .fits)) at (b .windows-into .ensures)
 
 move-into-requires : tie.Need-move-into-requires
 move-into-requires c κs = search needs
@@ -51,10 +51,10 @@ shift-down-into-spec =
     tie.close
     (tie.spec
     part-from-requires
-    windows-into-requires
+    copy-into-requires
     same-length
     returns
-    copy-into-requires
+    windows-into-requires
     same-length-2
     returns-2
     move-into-requires
