@@ -9,13 +9,13 @@ use native.Mathlib.Omega.{arith}
 use lib.ListN.{length, take, drop, set, getD, length-set, length-drop}
 use lib.Pow.{pow-add}
 use lib.Seq.{take-length, take-set-le, getD-set-same, getD-drop, drop-drop, drop-set-lt}
-use borrow.Rule.Slice.PartMut.{putMid, take-put, same-len-mid}
+use borrow.Rule.Slice.PartMut.{putMid, same-len-mid}
 use Rattle.limb.specs.Carry.{bit}
 use Rattle.limb.specs.Value.{valueIn}
 use Rattle.limb.proofs.Value.{value-nil, value-take, value-split}
 use Rattle.run.specs.Sum.{LimbReversed, Reversed}
 use Rattle.run.proofs.Adding.{limbs-from}
-use Rattle.parts.proofs.Parts.{part-is, drop-put}
+use Rattle.parts.proofs.Parts.{part-is, put-value}
 
 -- t₀ has become t below limb i: those limbs, with those that stood there and the borrow in, are worth the operand's with the borrow k on top.
 -- The limbs from i on stand.
@@ -82,9 +82,6 @@ module _ (t₀ o : List ℕ) (first : Bool) (t : List ℕ) (k : Bool) (i : ℕ) 
   abbrev after : List ℕ
   after = putMid i (length t - i) t part
 
-  after-value : i ≤ length t → valueIn B after ≡ valueIn B (take i t) + B ^ i * valueIn B part
-  after-value h = rw (take-put i (length t - i) t part h, drop-put t part i h) at (value-split B i after)
-
   top : B ^ length t₀ ≡ B ^ i * B ^ (length t₀ - i)
   top = ap (λ (m : ℕ). B ^ m) (sym (add-sub-of-le hi)) ∙ pow-add B i (length t₀ - i)
 
@@ -94,6 +91,6 @@ module _ (t₀ o : List ℕ) (first : Bool) (t : List ℕ) (k : Bool) (i : ℕ) 
       record {
         same-length = same-len-mid i (length t - i) t part (rw (part-is t i) (r .same-length)) ∙ a .same-length;
         value =
-            rw (after-value h, value-split B i t₀, limbs-from B o i (length t₀) hi ho, top)
+            rw (put-value t part i h B, value-split B i t₀, limbs-from B o i (length t₀) hi ho, top)
             (difference-joined (B ^ i) (B ^ (length t₀ - i)) _ _ _ _ _ _ (bit first) (bit k) (bit out) (a .value) (rw (a .above, length-drop) at (r .value)));
       }

@@ -1,18 +1,20 @@
 -- Laws of a run read at any bit: 64 bits lie in one limb or across two, and a run moved by bits is made of such windows. Assumes nothing.
 use mathlib.Core.Path.{_≡_, refl, sym, ap, _∙_, subst}
 use Prim.Native.Nat.{ℕ, suc, _+_, _-_, _*_, _/_, _%_, _^_, _≤_, _<_}
-use native.Mathlib.Nat.{add-mul-div-left, add-mul-mod-self-left, add-mod-mod, mod-eq-of-lt, mod-lt, mul-mod-left, mul-one, add-comm, add-zero, mul-assoc, div-one, mod-one}
+use native.Mathlib.Nat.{add-mul-div-left, add-mul-mod-self-left, add-mod-mod, mod-add-div, mod-eq-of-lt, mod-lt, mul-mod-left, mul-one, add-comm, add-zero, mul-assoc, div-one, mod-one}
 use native.Mathlib.Omega.{arith}
 use native.Mathlib.Numerals.{add-one}
 use mathlib.Core.List.{List}
-use lib.ListN.{length, take, drop, getD, set, length-set}
-use lib.Arith.{digits-lt}
+use lib.ListN.{length, take, drop, getD, set, length-set, length-drop}
+use lib.Arith.{digits-lt, mod-mul}
 use lib.Pow.{pow-pos, pow-add, mod-pow-add, shl-shr, shr-shr, shr-lt}
 use lib.Seq.{take-length, take-set-le, getD-set-same}
 use lib.Bits.{bitOr, or-shifted-r}
+use borrow.Rule.Slice.PartMut.{putMid, same-len-mid}
 use Rattle.limb.specs.Value.{valueIn, Below}
 use Rattle.limb.proofs.Value.{value-nil, value-unique, value-take, value-drop, value-shr, base-pow}
 use Rattle.shifts.specs.LowLimbs.{LowLimbs}
+use Rattle.parts.proofs.Parts.{part-is, put-value}
 
 -- what a left shift by u keeps at j + u bits: the low j bits of h, moved up
 kept : (h j u : ℕ) → h * 2 ^ u % 2 ^ (j + u) ≡ h % 2 ^ j * 2 ^ u
@@ -39,6 +41,19 @@ window-bits t u l h r hl =
     let pieces : (x + h * q) % b ≡ y * q + x = sym (add-mod-mod x (h * q) b) ∙ ap (λ (m : ℕ). (x + m) % b) (kept h t u) ∙ ap (λ (m : ℕ). m % b) (add-comm x (y * q)) ∙ mod-eq-of-lt small in
     ap (λ (m : ℕ). m % b) moved ∙ dropped ∙ pieces ∙ sym (ap (λ (m : ℕ). bitOr x m) (kept h t u) ∙ or-shifted-r y u x hx)
 
+-- moved up by m and n bits at once
+moved-twice : (x m n : ℕ) → x * 2 ^ (m + n) ≡ x * 2 ^ m * 2 ^ n
+moved-twice x m n = ap (λ (p : ℕ). x * p) (pow-add 2 m n) ∙ sym (mul-assoc x (2 ^ m) (2 ^ n))
+
+-- a limb moved up by 1 bit and then by 63 - t bits
+kept-times : (B x p : ℕ) → x % B * p % B ≡ x * p % B
+kept-times B x p = sym (ap (λ (m : ℕ). m % B) (omega (arith, ap (λ (m : ℕ). m * p) (mod-add-div x B))) ∙ add-mul-mod-self-left (x % B * p) B (x / B * p))
+
+pub moved-up-twice : (x t : ℕ) → t < 64 → x * 2 ^ 1 % 2 ^ 64 * 2 ^ (63 - t) % 2 ^ 64 ≡ x * 2 ^ (64 - t) % 2 ^ 64
+moved-up-twice x t h =
+    let e : 1 + (63 - t) ≡ 64 - t = omega arith in
+    kept-times (2 ^ 64) (x * 2 ^ 1) (2 ^ (63 - t)) ∙ ap (λ (m : ℕ). m % 2 ^ 64) (sym (moved-twice x 1 (63 - t)) ∙ ap (λ (m : ℕ). x * 2 ^ m) e)
+
 -- the 64 bits from bit t of limb q on
 module _ (l : List ℕ) (q t : ℕ) (ht : t < 64) (h : Below (2 ^ 64) l) where
   from-limb : valueIn (2 ^ 64) l / 2 ^ (64 * q + t) ≡ valueIn (2 ^ 64) (drop q l) / 2 ^ t
@@ -62,6 +77,16 @@ module _ (l : List ℕ) (q t : ℕ) (ht : t < 64) (h : Below (2 ^ 64) l) where
       sym (ap (λ (m : ℕ). m % 2 ^ 64) (from-limb ∙ ap (λ (m : ℕ). m / 2 ^ t) two-limbs)
       ∙ rw e at (window-bits t (64 - t) (getD l q 0) (getD l (q + 1) 0) (valueIn (2 ^ 64) (drop (suc (q + 1)) l)) (rw e (h q))))
 
+  -- the next limb may be moved up in two steps, by 1 bit and by the others
+  pub across-twice : bitOr (getD l q 0 / 2 ^ t) (getD l (q + 1) 0 * 2 ^ 1 % 2 ^ 64 * 2 ^ (63 - t) % 2 ^ 64) ≡ valueIn (2 ^ 64) l / 2 ^ (64 * q + t) % 2 ^ 64
+  across-twice = ap (λ (m : ℕ). bitOr (getD l q 0 / 2 ^ t) m) (moved-up-twice (getD l (q + 1) 0) t ht) ∙ across
+
+  -- the limbs from q on, moved down by t bits, are the limbs from q on of the run moved down
+  pub part-moved : valueIn (2 ^ 64) (drop q l) / 2 ^ t ≡ valueIn (2 ^ 64) l / 2 ^ t / (2 ^ 64) ^ q
+  part-moved =
+      let x : ℕ = valueIn (2 ^ 64) l in
+      sym (ap (λ (m : ℕ). x / 2 ^ t / m) (base-pow q) ∙ shr-shr x t (64 * q) ∙ ap (λ (m : ℕ). x / 2 ^ m) (add-comm t (64 * q)) ∙ from-limb)
+
 -- a run moved down by k bits is what is left of it above limb k / 64, moved down by less than a limb
 pub moved-down : (l : List ℕ) (k : ℕ) → Below (2 ^ 64) l → valueIn (2 ^ 64) (drop (k / 64) l) / 2 ^ (k % 64) ≡ valueIn (2 ^ 64) l / 2 ^ k
 moved-down l k h =
@@ -74,10 +99,6 @@ moved-down-whole l k h z = sym (div-one _) ∙ ap (λ (m : ℕ). valueIn (2 ^ 64
 -- limb i of a run
 pub limb-bits : (l : List ℕ) (i : ℕ) → Below (2 ^ 64) l → getD l i 0 ≡ valueIn (2 ^ 64) l / 2 ^ (64 * i) % 2 ^ 64
 limb-bits l i h = rw add-zero at (whole l i 0 (omega arith) h refl)
-
--- moved up by m and n bits at once
-moved-twice : (x m n : ℕ) → x * 2 ^ (m + n) ≡ x * 2 ^ m * 2 ^ n
-moved-twice x m n = ap (λ (p : ℕ). x * p) (pow-add 2 m n) ∙ sym (mul-assoc x (2 ^ m) (2 ^ n))
 
 -- a run times p, with its lowest limb apart
 lowest-times : (B : ℕ) (l : List ℕ) (p : ℕ) → valueIn B l * p ≡ getD l 0 0 * p + B * (valueIn B (drop 1 l) * p)
@@ -163,6 +184,31 @@ module _ (y : ℕ) (t₀ : List ℕ) where
   all-written t i e a =
       let all : take i t ≡ t = ap (λ (n : ℕ). take n t) (e ∙ sym (a .same-length)) ∙ take-length t in
       record { size = a .same-length; value = rw (sym e) (rw all at (a .value)) }
+
+digits-joined : (P low high lowest highest all : ℕ) → low ≡ lowest → high ≡ highest → all ≡ highest * P + lowest → low + P * high ≡ all
+digits-joined P low high lowest highest all el eh e = omega (arith, ap (λ (m : ℕ). P * m) eh)
+
+-- the limbs below limb i are there, and then those from there on, in that part of the target
+module _ (y : ℕ) (t₀ t : List ℕ) (i : ℕ) (part : List ℕ) (hi : i ≤ length t₀) (a : WrittenTo i y t₀ t) where
+  abbrev B : ℕ
+  B = 2 ^ 64
+
+  within : i ≤ length t
+  within = omega (arith, hi, a .same-length)
+
+  power-pos : (n : ℕ) → 0 < B ^ n
+  power-pos n = subst (λ (m : ℕ). 0 < m) (sym (base-pow n)) (pow-pos (64 * n))
+
+  whole-value : y % B ^ length t₀ ≡ y / B ^ i % B ^ (length t₀ - i) * B ^ i + y % B ^ i
+  whole-value =
+      let size : length t₀ - i + i ≡ length t₀ = omega (arith, hi) in
+      ap (λ (m : ℕ). y % B ^ m) (sym size) ∙ ap (λ (m : ℕ). y % m) (pow-add B (length t₀ - i) i) ∙ mod-mul y (power-pos (length t₀ - i)) (power-pos i)
+
+  pub rest-written : LowLimbs (length t₀ - i) (y / B ^ i) part → LowLimbs (length t₀) y (putMid i (length t - i) t part)
+  rest-written r = record {
+    size = same-len-mid i (length t - i) t part (rw (part-is t i, length-drop, a .same-length) (r .size)) ∙ a .same-length;
+    value = put-value t part i within B ∙ digits-joined (B ^ i) _ _ _ _ _ (a .value) (r .value) whole-value;
+  }
 
 -- two answers that meet `LowLimbs` agree, each with its limbs below 2^64
 pub low-limbs-unique : (room n : ℕ) (xs ys : List ℕ) → Below (2 ^ 64) xs → Below (2 ^ 64) ys → LowLimbs room n xs → LowLimbs room n ys → xs ≡ ys

@@ -1,6 +1,6 @@
 // Bits of a run of limbs at any offset, and moves by bits.
 ghost use mathlib.Core.Path.{_≡_};
-ghost use Prim.Native.Nat.{ℕ, _+_, _*_, _/_, _%_, _^_, _≤_, _<_};
+ghost use Prim.Native.Nat.{ℕ, _+_, _-_, _*_, _/_, _%_, _^_, _≤_, _<_};
 ghost use lib.Dec.{eqb};
 ghost use lib.ListN.{length};
 ghost use Rattle.limb.specs.Value.{valueOf};
@@ -46,19 +46,7 @@ fn copy_into(target: &mut [u64], s: &[u64])
     }
 }
 
-// The run moved down by less than a limb, where it is longer than the target.
-fn move_into(target: &mut [u64], s: &[u64], bits: usize)
-    requires { ⌜ (length (now target) < length (now s)) × (0 < bits) × (bits < 64) ⌝ }
-    ensures { λ r. ⌜ LowLimbs (length (now (target .entry))) (valueOf (now (s .entry)) / 2 ^ bits) (now (target .exit)) ⌝ }
-{
-    let mut i = 0;
-    while i < target.len() {
-        target[i] = (s[i] >> bits) | (s[i + 1] << (64 - bits));
-        i += 1;
-    }
-}
-
-// The run moved down by less than a limb, or not at all, 0 beyond its end.
+// The run moved down by less than a limb, window by window, 0 beyond its end.
 fn windows_into(target: &mut [u64], s: &[u64], bits: usize)
     requires { ⌜ bits < 64 ⌝ }
     ensures { λ r. ⌜ LowLimbs (length (now (target .entry))) (valueOf (now (s .entry)) / 2 ^ bits) (now (target .exit)) ⌝ }
@@ -70,8 +58,34 @@ fn windows_into(target: &mut [u64], s: &[u64], bits: usize)
     }
 }
 
-// The run moved down by k bits, into the whole target.
-// Where the run goes on past the target's top, no limb of it has to be looked for, and the loops of copy_into and move_into take many limbs a turn.
+// How many of `room` limbs come from two limbs each of a run of `count`.
+fn pairs(room: usize, count: usize) -> usize
+    ensures { λ r. ⌜ (r ≤ room) × (r ≤ count - 1) ⌝ }
+{
+    if room < count {
+        return room;
+    }
+    if count == 0 { 0 } else { count - 1 }
+}
+
+// The run moved down by less than a limb. As far as its limbs meet in pairs there is no end to look for, and the loop takes several limbs a turn.
+// The upper limb goes up in two steps, by 1 bit and by the others: in one step the compiler would join both shifts of a pair, which is done pair
+// by pair, and a move by no bit would be a shift by 64.
+fn move_into(target: &mut [u64], s: &[u64], bits: usize)
+    requires { ⌜ bits < 64 ⌝ }
+    ensures { λ r. ⌜ LowLimbs (length (now (target .entry))) (valueOf (now (s .entry)) / 2 ^ bits) (now (target .exit)) ⌝ }
+{
+    let end = pairs(target.len(), s.len());
+    let mut i = 0;
+    while i < end {
+        target[i] = (s[i] >> bits) | ((s[i + 1] << 1) << (63 - bits));
+        i += 1;
+    }
+    windows_into(&mut target[i..], part_from(s, i), bits)
+}
+
+// The run moved down by k bits, into the whole target. A few limbs go window by window: what move_into does before its loop starts would
+// cost more than it saves.
 pub fn shift_down_into(target: &mut [u64], s: &[u64], k: usize)
     ensures { λ r. ⌜ LowLimbs (length (now (target .entry))) (valueOf (now (s .entry)) / 2 ^ k) (now (target .exit)) ⌝ }
 {
@@ -82,11 +96,12 @@ pub fn shift_down_into(target: &mut [u64], s: &[u64], k: usize)
             copy_into(target, part);
             return;
         }
-    } else if target.len() < part.len() {
-        move_into(target, part, bits);
+    }
+    if target.len() < 8 {
+        windows_into(target, part, bits);
         return;
     }
-    windows_into(target, part, bits)
+    move_into(target, part, bits)
 }
 
 // Limb i of the run moved up by k bits.

@@ -1,4 +1,4 @@
--- `shifts::shift::copy_into` is right since limb i of the run is written at i. Assumes nothing.
+-- `shifts::copy_into` is right since limb i of the run is written at i. Assumes nothing.
 use mathlib.Core.Path.{_≡_}
 use Prim.Native.Nat.{ℕ, _-_, _^_, _≤_}
 use native.Mathlib.Omega.{arith}

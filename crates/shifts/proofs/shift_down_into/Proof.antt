@@ -20,8 +20,8 @@ returns c =
     let g = p .before .before .before .args in
     rw (p .part-from .ensures, moved-down-whole (g .s .now) (g .k) (λ i. p .before .shared-slice-known .given i .fits) (b .before .before .before .if1 .taken)) at (b .copy-into .ensures)
 
-move-into-requires : tie.Need-move-into-requires
-move-into-requires c κs = search needs
+windows-into-requires : tie.Need-windows-into-requires
+windows-into-requires c κs = search needs
 
 same-length-2 : tie.Need-same-length-2
 same-length-2 c = search needs
@@ -31,10 +31,10 @@ returns-2 c =
     let b = c .before .before in
     let p = b .before .before .before .before in
     let g = p .before .before .before .args in
-    rw (p .part-from .ensures, moved-down (g .s .now) (g .k) (λ i. p .before .shared-slice-known .given i .fits)) at (b .move-into .ensures)
+    rw (p .part-from .ensures, moved-down (g .s .now) (g .k) (λ i. p .before .shared-slice-known .given i .fits)) at (b .windows-into .ensures)
 
-windows-into-requires : tie.Need-windows-into-requires
-windows-into-requires c κs = search needs
+move-into-requires : tie.Need-move-into-requires
+move-into-requires c κs = search needs
 
 same-length-3 : tie.Need-same-length-3
 same-length-3 c = search needs
@@ -42,9 +42,9 @@ same-length-3 c = search needs
 returns-3 : tie.Need-returns-3
 returns-3 c =
     let b = c .before .before in
-    let p = b .before .before .before in
+    let p = b .before .before .before .before in
     let g = p .before .before .before .args in
-    rw (p .part-from .ensures, moved-down (g .s .now) (g .k) (λ i. p .before .shared-slice-known .given i .fits)) at (b .windows-into .ensures)
+    rw (p .part-from .ensures, moved-down (g .s .now) (g .k) (λ i. p .before .shared-slice-known .given i .fits)) at (b .move-into .ensures)
 
 pub shift-down-into-spec : {M : Type 1} → statement M
 shift-down-into-spec =
@@ -54,9 +54,9 @@ shift-down-into-spec =
     copy-into-requires
     same-length
     returns
-    move-into-requires
+    windows-into-requires
     same-length-2
     returns-2
-    windows-into-requires
+    move-into-requires
     same-length-3
     returns-3)
