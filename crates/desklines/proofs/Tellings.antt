@@ -28,7 +28,7 @@ use Rattle.lines.specs.Writing.{onto, writeRefusal, writtenOf, roomAfter}
 use Rattle.lines.proofs.Size.{size-is}
 use Rattle.lines.proofs.Answered.{write-accepted}
 use Rattle.lines.proofs.Room.{onto-nothing, put-numeral, set-onto}
-use Rattle.sums.specs.declared.report.Sum.{Sum}
+use Rattle.reports.specs.declared.report.Sum.{Sum}
 use Rattle.desklines.specs.Answer.{refusalLine, ternaryByte, reportLine, sumLines, reportSize, longestAnswer}
 use Rattle.desklines.specs.Written.{Tells, Appends}
 

@@ -17,8 +17,8 @@ use Rattle.checks.specs.Check.{accepted, pairRefusal}
 use Rattle.text.specs.Digits.{numeral}
 use Rattle.lines.specs.Line.{lineFeed, lineOf, longestLine}
 use Rattle.lines.specs.Reading.{numberIn, limbsRead, readRefusal}
-use Rattle.sums.specs.declared.report.Sum.{Sum}
-use Rattle.sums.specs.Summed.{Reported}
+use Rattle.reports.specs.declared.report.Sum.{Sum}
+use Rattle.reports.specs.Summed.{Reported}
 use Rattle.desklines.specs.Order.{orderRefusal, orderOf, operationOf}
 
 -- "A refusal prints one line: ee, number, place, a byte each"

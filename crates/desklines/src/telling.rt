@@ -1,6 +1,6 @@
 // The lines that are printed, each from a place of the output on.
 use checks::Refusal;
-use sums::Sum;
+use reports::Sum;
 ghost use mathlib.Core.Path.{_≡_};
 ghost use Prim.Native.Nat.{_+_, _≤_, _<_};
 ghost use mathlib.Core.List.{_∷_, []};

@@ -40,7 +40,8 @@ use Rattle.descent.specs.declared.going.Verdict.the-variants as verdict
 use Rattle.descent.specs.declared.going.Walked.{Walked}
 use Rattle.descent.specs.Ready.{Room}
 use Rattle.descent.specs.Course.{Course, Judged, Stopped}
-use Rattle.ending.specs.Finishing.{Ending, Left, Signed, HoleSays}
+use Rattle.ending.specs.Finishing.{Ending, Left, HoleSays}
+use Rattle.reports.specs.Signed.{Signed}
 use Rattle.ending.proofs.Finishing.{room-pos}
 
 pub deep-enough : 66 ≤ deepest

@@ -7,7 +7,7 @@ use lib.ListN.{length, drop}
 use Rattle.limb.specs.Value.{valueOf}
 use Rattle.numbers.specs.Limits.{mostExponent}
 use Rattle.rounding.specs.Mode.{Way}
-use Rattle.rounding.specs.Answer.{Answer, zeroOf, number, tooLarge, tooSmall, rounded}
+use Rattle.rounding.specs.Answer.{Answer, rounded}
 use Rattle.place.specs.declared.Placed.{Placed}
 use Rattle.place.specs.Placed.{placedOf, limbsAfter}
 use Rattle.settle.specs.declared.rows.Pair.{Pair}
@@ -32,13 +32,6 @@ pub record Ending (p top : ℕ) (w : Window) (target : List ℕ) : Type 0 where
 pub record Left (p : ℕ) (a : Answer) (exit : List ℕ) (r : Placed) : Type 0 where
   pub told : r ≡ placedOf a
   pub limbs : exit ≡ limbsAfter p a
-
--- an answer of that sign, not a zero
-abbrev pub Signed : Bool → Answer → Type 0
-Signed n (zeroOf m) = ⊥
-Signed n (number m e d t) = m ≡ n
-Signed n tooLarge = Unit {0}
-Signed n tooSmall = Unit {0}
 
 -- in a hole the answer is that of D, with a little more or a little less, and zeros below it as far as the digits asked for
 abbrev pub HoleSays : Way → ℕ → Pair → Bool → ℕ → ℕ → Answer → Type 0

@@ -18,7 +18,7 @@ use Rattle.text.specs.Digits.{digitOf, allDigits, glyphOf, worth, numeral}
 use Rattle.text.proofs.Bytes.{bytes}
 use Rattle.lines.specs.Line.{kindByte, twosComplement, headDigits, limbDigits, lineFeed, lineOf, shortestLine, lineSize, longestLine}
 use Rattle.lines.specs.Reading.{field, kindIn, signedOf, negativeOf, kindOf, numberIn, limbsIn, operandIn, digitsHold, headTests, limbTests, readRefusal, limbsRead}
-use Rattle.sums.specs.declared.report.Sum.{Sum}
+use Rattle.reports.specs.declared.report.Sum.{Sum}
 use Rattle.sums.proofs.Examples.{case-reported}
 use Rattle.desklines.specs.declared.order.Order.{Order}
 use Rattle.desklines.specs.Order.{orderSize, orderRefusal, operationOf}

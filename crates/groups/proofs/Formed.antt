@@ -28,8 +28,8 @@ use Rattle.checks.specs.Number.{isZeroKind, operandOf, exponentOf}
 use Rattle.checks.specs.Check.{accepted}
 use Rattle.checks.proofs.Signed.{counted-exponent-of}
 use Rattle.place.specs.Placed.{limbsAfter}
-use Rattle.sums.specs.declared.report.Sum.{Sum}
-use Rattle.sums.specs.Summed.{sumOf, refusedSum, Reported}
+use Rattle.reports.specs.declared.report.Sum.{Sum}
+use Rattle.reports.specs.Summed.{sumOf, refusedSum, Reported}
 
 -- the digits of a rounded number: p, of which the first is 1, and an exponent in range
 record Normal (p e d : ℕ) : Type 0 where

@@ -23,8 +23,8 @@ use Rattle.depth.specs.Depth.{plus, minus}
 use Rattle.lines.specs.Writing.{onto}
 use Rattle.lines.specs.Reading.{numberIn}
 use Rattle.lines.specs.declared.Head.{Head}
-use Rattle.sums.specs.declared.report.Sum.{Sum}
-use Rattle.sums.specs.Summed.{refusedSum, Reported, Refused, Summed}
+use Rattle.reports.specs.declared.report.Sum.{Sum}
+use Rattle.reports.specs.Summed.{refusedSum, Reported, Refused, Summed}
 use Rattle.desklines.specs.declared.order.Order.{Order}
 use Rattle.desklines.specs.Order.{orderRefusal, orderOf, operationOf}
 use Rattle.desklines.specs.Answer.{refusalLine, sumLines, longestAnswer, operandOfLine, numberRefusal, earlier, linesRefusal, sumRefusal, groupRefusal}

@@ -30,7 +30,8 @@ use Rattle.bridge.proofs.Read.{read-none}
 use Rattle.bridge.proofs.Told.{top-is}
 use Rattle.bridge.proofs.Exchange.{top-exchange, deciding-exchange}
 use Rattle.descent.specs.Course.{Course}
-use Rattle.ending.specs.Finishing.{Left, Signed}
+use Rattle.ending.specs.Finishing.{Left}
+use Rattle.reports.specs.Signed.{Signed}
 use Rattle.ending.proofs.Handed.{ordered-pair}
 use Rattle.narrow.specs.declared.seeing.Seen.{Seen}
 use Rattle.narrow.specs.Sighting.{topLimb, Held, Facing, Told}

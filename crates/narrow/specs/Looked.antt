@@ -7,7 +7,8 @@ use Rattle.rounding.specs.Mode.{Mode}
 use Rattle.rounding.specs.Sum.{add}
 use Rattle.depth.specs.Columns.{topExponent, limbsUsed}
 use Rattle.depth.specs.Depth.{plus, Depth}
-use Rattle.ending.specs.Finishing.{Left, Signed}
+use Rattle.ending.specs.Finishing.{Left}
+use Rattle.reports.specs.Signed.{Signed}
 use Rattle.narrow.specs.declared.looking.Sight.{Sight}
 
 -- one column is the depth, the answer stands in one limb, its sign is told, and the limbs used of each operand

@@ -13,7 +13,8 @@ use Rattle.place.specs.declared.Placed.{Placed}
 use Rattle.settle.specs.declared.rows.Pair.{Pair}
 use Rattle.bridge.specs.Verdict.{pairOf}
 use Rattle.descent.specs.Course.{Course}
-use Rattle.ending.specs.Finishing.{Left, Signed}
+use Rattle.ending.specs.Finishing.{Left}
+use Rattle.reports.specs.Signed.{Signed}
 
 -- the top limb of a number
 unfoldable pub topLimb : List ℕ → ℕ

@@ -14,7 +14,7 @@ use Rattle.unpack.specs.declared.FromDouble.{FromDouble}
 use Rattle.lines.specs.declared.Head.{Head}
 use Rattle.lines.specs.declared.Written.{Written}
 use Rattle.parts.specs.Trimmed.{trimmed}
-use Rattle.sums.specs.declared.report.Sum.{Sum}
+use Rattle.reports.specs.declared.report.Sum.{Sum}
 use Rattle.plain.specs.declared.PlainNumber.{PlainNumber}
 use Rattle.plain.specs.declared.PlainSum.{PlainSum}
 use Rattle.plain.specs.declared.PlainPair.{PlainPair}

@@ -19,8 +19,8 @@ use Rattle.lines.specs.declared.Head.{Head}
 use Rattle.lines.specs.declared.Written.{Written}
 use Rattle.lines.specs.Writing.{writtenOf, roomAfter}
 use Rattle.depth.specs.Depth.{Operation}
-use Rattle.sums.specs.declared.report.Sum.{Sum}
-use Rattle.sums.specs.Summed.{Summed, Rerounded}
+use Rattle.reports.specs.declared.report.Sum.{Sum}
+use Rattle.reports.specs.Summed.{Summed, Rerounded}
 use Rattle.plain.specs.declared.PlainNumber.{PlainNumber}
 use Rattle.plain.specs.declared.PlainSum.{PlainSum}
 use Rattle.plain.specs.declared.PlainOrder.{PlainOrder}

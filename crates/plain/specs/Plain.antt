@@ -4,7 +4,7 @@ use Rattle.checks.specs.declared.Number.{Number}
 use Rattle.checks.specs.declared.Refusal.{Refusal}
 use Rattle.checks.specs.declared.Kind.{Kind}
 use Rattle.checks.specs.declared.Kind.the-variants.{Regular, Zero}
-use Rattle.sums.specs.declared.report.Sum.{Sum}
+use Rattle.reports.specs.declared.report.Sum.{Sum}
 use Rattle.plain.specs.declared.PlainNumber.{PlainNumber}
 use Rattle.plain.specs.declared.PlainSum.{PlainSum}
 

@@ -8,7 +8,7 @@ use lines::Head;
 use lines::Written;
 use order::Compared;
 use order::Order;
-use sums::Sum;
+use reports::Sum;
 use unpack::FromDouble;
 ghost use mathlib.Core.Path.{_≡_};
 ghost use Rattle.order.specs.Order.{numberOf};

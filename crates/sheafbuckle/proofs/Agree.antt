@@ -4,8 +4,8 @@ use mathlib.Core.List.{List}
 use Prim.Native.Nat.{ℕ}
 use Rattle.checks.specs.declared.Number.{Number}
 use Rattle.depth.specs.Depth.{Operation}
-use Rattle.sums.specs.Summed.{Summed, Rerounded}
-use Rattle.sums.proofs.Agree.{summed-unique, rerounded-unique}
+use Rattle.reports.specs.Summed.{Summed, Rerounded}
+use Rattle.reports.proofs.Agree.{summed-unique, rerounded-unique}
 use Rattle.plain.specs.declared.PlainSum.{PlainSum}
 use Rattle.plain.specs.Plain.{sumFrom}
 use Rattle.plain.proofs.Agree.{sum-unique}

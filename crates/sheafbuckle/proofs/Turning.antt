@@ -7,8 +7,8 @@ use lib.IntN.{ℤ}
 use Rattle.checks.specs.declared.Number.{Number}
 use Rattle.checks.specs.Number.{turnedNumber}
 use Rattle.depth.specs.Depth.{plus, minus}
-use Rattle.sums.specs.declared.report.Sum.{Sum}
-use Rattle.sums.specs.Summed.{Summed}
+use Rattle.reports.specs.declared.report.Sum.{Sum}
+use Rattle.reports.specs.Summed.{Summed}
 use Rattle.sums.proofs.Turned.{summed-turned}
 use Rattle.plain.specs.declared.PlainNumber.{PlainNumber}
 use Rattle.plain.specs.declared.PlainSum.{PlainSum}

@@ -8,7 +8,7 @@ ghost use mathlib.Core.Path.{_≡_};
 ghost use mathlib.Core.Bool.{true, false, cond};
 ghost use Rattle.checks.specs.Number.{turnedNumber};
 ghost use Rattle.depth.specs.Depth.{plus, minus};
-ghost use Rattle.sums.specs.Summed.{Summed, Rerounded};
+ghost use Rattle.reports.specs.Summed.{Summed, Rerounded};
 ghost use Rattle.plain.specs.Plain.{numberFrom, sumFrom};
 
 // The number, with the other sign where so said.

@@ -8,8 +8,8 @@ use native.Mathlib.Decide.{decLe}
 use lib.ListN.{length, take}
 use lib.Seq.{length-take-le}
 use Rattle.checks.specs.Check.{accepted}
-use Rattle.sums.specs.declared.report.Sum.{Sum}
-use Rattle.sums.proofs.Agree.{accepted-or, reported-unique}
+use Rattle.reports.specs.declared.report.Sum.{Sum}
+use Rattle.reports.proofs.Agree.{accepted-or, reported-unique}
 use Rattle.lines.specs.Writing.{onto}
 use Rattle.desklines.specs.Answer.{sumLines, groupRefusal, Answered, longestAnswer}
 use Rattle.desklines.specs.Written.{Answers}

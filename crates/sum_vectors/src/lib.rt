@@ -1,6 +1,6 @@
 // Runs one case of the sums' vectors.
 use checks::Number;
-use sums::Sum;
+use reports::Sum;
 ghost use Prim.Native.Nat.{_≤_, _<_};
 
 // What a line asks, without its limbs. Operation 0 adds, 1 subtracts, any other re-rounds the first number.

@@ -18,15 +18,15 @@ use Rattle.checks.specs.declared.Number.{Number}
 use Rattle.checks.specs.Number.{operandOf}
 use Rattle.place.specs.Placed.{placedOf}
 use Rattle.descent.specs.Ready.{Room}
-use Rattle.ending.specs.Finishing.{Signed}
+use Rattle.reports.specs.Signed.{Signed}
 use Rattle.ending.proofs.RegularEnd.{deep-enough}
 use Rattle.narrow.specs.declared.looking.Sight.{Sight}
 use Rattle.narrow.specs.Looked.{Looked}
 use Rattle.wide.specs.declared.attempting.Wide.{Wide}
 use Rattle.wide.specs.Attempted.{Attempted}
-use Rattle.sums.specs.declared.report.Sum.{Sum}
-use Rattle.sums.specs.Summed.{sumOf, Reported}
-use Rattle.sums.proofs.RegularReport.{sum-depth}
+use Rattle.reports.specs.declared.report.Sum.{Sum}
+use Rattle.reports.specs.Summed.{sumOf, Reported}
+use Rattle.reports.proofs.Told.{sum-depth}
 
 -- the three tests
 pub narrow-told : (p : ℕ) {a b u v : Bool} → a ≡ u → b ≡ v → ((leb p 62 && not a) && not b) ≡ true → (p ≤ 62) × (u ≡ false) × (v ≡ false)

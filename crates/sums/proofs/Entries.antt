@@ -1,39 +1,36 @@
 -- What the checks leave to a sum, and what its cases give to add and re-round. Assumes nothing.
 use mathlib.Core.Path.{_≡_, refl, sym, ap, _∙_, subst}
-use mathlib.Core.Bool.{Bool, true, false, _&&_, true≢false}
+use mathlib.Core.Bool.{Bool, true, true≢false}
 use mathlib.Core.List.{List}
 use Prim.Native.Nat.{ℕ, _^_, _≤_}
-use native.Mathlib.Omega.{arith}
-use lib.ListN.{length}
+use lib.ListN.{length, replicate}
 use Rattle.limb.specs.Value.{Below}
 use Rattle.numbers.specs.Operand.{Operand, WellFormed, zeroLike}
-use Rattle.numbers.proofs.Limits.{two-digits}
 use Rattle.rounding.specs.Mode.{modeOf}
+use Rattle.rounding.specs.Answer.{zeroOf}
+use Rattle.rounding.specs.Sum.{zeroSign}
 use Rattle.depth.specs.Depth.{Operation, plus}
 use Rattle.checks.specs.declared.Number.{Number}
 use Rattle.checks.specs.declared.Refusal.{Refusal}
 use Rattle.checks.specs.Number.{isZeroKind, operandOf}
 use Rattle.checks.specs.Check.{accepted, pairRefusal, singleRefusal}
 use Rattle.checks.proofs.Accepted.{accepted-well-formed, accepted-single, pair-unrefused, single-unrefused}
-use Rattle.sums.specs.declared.report.Sum.{Sum}
-use Rattle.sums.specs.Exchanged.{exchangedSum}
+use Rattle.reports.specs.declared.report.Sum.{Sum}
 use Rattle.descent.specs.Ready.{Room}
-use Rattle.sums.specs.Summed.{refusedSum, Reported, Summed, Rerounded}
-use Rattle.sums.proofs.Exchanged.{reported-exchanged}
+use Rattle.reports.specs.Summed.{refusedSum, sumOf, Reported, Summed, Rerounded}
+use Rattle.reports.proofs.Zeros.{zeros-reported}
 
 pub kind-told : (x : Number) (xl : List ℕ) {v b : Bool} → v ≡ isZeroKind (x .kind) → v ≡ b → operandOf x xl .isZero ≡ b
 unfolding operandOf
 kind-told x xl e f = sym e ∙ f
 
--- a zero and a regular number: the sum of the two in the other order, its counts exchanged
-pub zero-first : (mode p n : ℕ) (x y : Operand) (exit : List ℕ) (s r : Sum) → Room p n → y .isZero ≡ false → r ≡ exchangedSum s
-    → Reported plus (modeOf mode) p y x exit s → Reported plus (modeOf mode) p x y exit r
-zero-first mode p n x y exit s r room b e d =
-    rw e (reported-exchanged (modeOf mode) p (omega (arith, two-digits, room .least)) x y (some (x .isZero) (y .isZero) b) exit s d)
-  where
-    some : (u v : Bool) → v ≡ false → (u && v) ≡ false
-    some true v f = f
-    some false v f = refl
+-- two zeros
+pub zeros-told : (mode p : ℕ) (x : Number) (xl : List ℕ) (y : Number) (yl : List ℕ) → operandOf x xl .isZero ≡ true → operandOf y yl .isZero ≡ true
+    → (entry : List ℕ) {exit : List ℕ} {v : Bool} {r : Sum} → Room p (length entry) → exit ≡ replicate (length entry) 0
+    → v ≡ zeroSign (modeOf mode) (x .negative) (y .negative) → r ≡ sumOf (zeroOf v) p 0 0 0 → Reported plus (modeOf mode) p (operandOf x xl) (operandOf y yl) exit r
+unfolding operandOf
+zeros-told mode p x xl y yl a b entry {exit} room e f g =
+    rw (g, f) (zeros-reported (modeOf mode) p (operandOf x xl) (operandOf y yl) a b exit (e ∙ ap (λ (n : ℕ). replicate n 0) (room .count)))
 
 -- a well-formed zero is the zero that re-rounding adds to it
 pub zero-alike : (x : Operand) → WellFormed x → x .isZero ≡ true → x ≡ zeroLike x

@@ -29,8 +29,8 @@ use Rattle.checks.specs.Number.{isZeroKind, operandOf, exponentOf, nothing}
 use Rattle.checks.specs.Check.{accepted, firstRefusal, modeHolds, precisionHolds, lengthHolds, exponentHolds, formHolds, pairRefusal, singleRefusal}
 use Rattle.location.specs.Ternary.{ternaryOf}
 use Rattle.place.specs.Placed.{limbsAfter}
-use Rattle.sums.specs.declared.report.Sum.{Sum}
-use Rattle.sums.specs.Summed.{refusedSum, sumOf, Reported, Summed, Rerounded}
+use Rattle.reports.specs.declared.report.Sum.{Sum}
+use Rattle.reports.specs.Summed.{refusedSum, sumOf, Reported, Summed, Rerounded}
 
 abbrev given : Bool → Kind → ℕ → ℤ → Number
 given n k p e = record { negative = n; kind = k; precision = p; exponent = e }

@@ -15,8 +15,8 @@ use Rattle.checks.specs.declared.Refusal.{Refusal}
 use Rattle.checks.specs.Number.{operandOf, turnedNumber}
 use Rattle.checks.specs.Check.{pairRefusal, exponentHolds, formHolds}
 use Rattle.place.specs.Placed.{limbsAfter}
-use Rattle.sums.specs.declared.report.Sum.{Sum}
-use Rattle.sums.specs.Summed.{sumOf, Reported, Refused, Summed}
+use Rattle.reports.specs.declared.report.Sum.{Sum}
+use Rattle.reports.specs.Summed.{sumOf, Reported, Refused, Summed}
 
 module _ (o : Mode) (p : ℕ) (x y : Operand) where
   result-turned : result plus o p x (turned y) ≡ result minus o p x y

@@ -8,17 +8,10 @@ ghost use Rattle.numbers.specs.Operand.{WellFormed};
 ghost use Rattle.rounding.specs.Mode.{modeOf};
 ghost use Rattle.depth.specs.Depth.{plus, minus};
 ghost use Rattle.checks.specs.Number.{isZeroKind, operandOf};
-ghost use Rattle.sums.specs.Summed.{Reported, Summed, Rerounded};
+ghost use Rattle.reports.specs.Summed.{Reported, Summed, Rerounded};
 ghost use Rattle.descent.specs.Ready.{Room};
-use crate::regular::answered;
-use crate::regular::both;
-use crate::regular::single;
-use crate::report::Sum;
-use crate::report::exchanged;
-use crate::report::refused;
-use crate::report::zero;
-use crate::report::zero_sign;
 use checks::Number;
+use reports::Sum;
 
 // Two zeros: nothing is read.
 fn zeros(mode: u8, x: Number, y: Number, p: u64, target: &mut [u64]) -> Sum
@@ -26,7 +19,7 @@ fn zeros(mode: u8, x: Number, y: Number, p: u64, target: &mut [u64]) -> Sum
     ensures { λ r. ⌜ ((xl yl : List ℕ) → operandOf x xl .isZero ≡ true → operandOf y yl .isZero ≡ true → Reported plus (modeOf mode) p (operandOf x xl) (operandOf y yl) (now (target .exit)) r) ⌝ }
 {
     parts::clear(target);
-    zero(zero_sign(mode, x.negative, y.negative), p, 0, 0, 0)
+    reports::zero(reports::zero_sign(mode, x.negative, y.negative), p, 0, 0, 0)
 }
 
 // Where checks 1 to 5 pass.
@@ -38,12 +31,12 @@ fn summed(mode: u8, x: Number, xl: &[u64], y: Number, yl: &[u64], p: u64, target
         if checks::is_zero(y) {
             return zeros(mode, x, y, p, target);
         }
-        return exchanged(single(mode, y, yl, p, target));
+        return reports::exchanged(general::single(mode, y, yl, p, target));
     }
     if checks::is_zero(y) {
-        return single(mode, x, xl, p, target);
+        return general::single(mode, x, xl, p, target);
     }
-    both(mode, x, xl, y, yl, p, target)
+    general::both(mode, x, xl, y, yl, p, target)
 }
 
 // The same over copies of the numbers: a quicker way before it has none of them in memory.
@@ -98,7 +91,7 @@ pub fn add(
 {
     let refusal = admission::check_pair(mode, x, xl, y, yl, p, target.len());
     if refusal.rule != 0 {
-        return refused(refusal, 0, 0, 0);
+        return reports::refused(refusal, 0, 0, 0);
     }
     if is_narrow(p, x, y) {
         let sight = narrow::look(mode, x, xl, y, yl, p);
@@ -106,7 +99,7 @@ pub fn add(
         if !seen.open {
             let placed = seen.placed;
             target[0] = seen.limb;
-            return answered(placed, sight.negative, p, 1, sight.first, sight.second);
+            return reports::answered(placed, sight.negative, p, 1, sight.first, sight.second);
         }
     }
     if is_regular(x, y) {
@@ -115,7 +108,7 @@ pub fn add(
             return summed_apart(mode, x, xl, y, yl, p, target);
         }
         let placed = told.placed;
-        return answered(
+        return reports::answered(
             placed,
             told.negative,
             p,
@@ -148,7 +141,7 @@ pub fn reround(mode: u8, x: Number, xl: &[u64], p: u64, target: &mut [u64]) -> S
 {
     let refusal = admission::check_single(mode, x, xl, p, target.len());
     if refusal.rule != 0 {
-        return refused(refusal, 0, 0, 0);
+        return reports::refused(refusal, 0, 0, 0);
     }
     if is_narrow(p, x, x) {
         let sight = narrow::look_alone(mode, x, xl, p);
@@ -156,12 +149,12 @@ pub fn reround(mode: u8, x: Number, xl: &[u64], p: u64, target: &mut [u64]) -> S
         if !told.open {
             let placed = told.placed;
             target[0] = told.limb;
-            return answered(placed, sight.negative, p, 1, sight.first, sight.second);
+            return reports::answered(placed, sight.negative, p, 1, sight.first, sight.second);
         }
     }
     let alike = checks::copied(x);
     if checks::is_zero(alike) {
         return zeros(mode, alike, alike, p, target);
     }
-    single(mode, alike, xl, p, target)
+    general::single(mode, alike, xl, p, target)
 }

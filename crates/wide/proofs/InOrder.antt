@@ -3,23 +3,22 @@ use mathlib.Core.Path.{_≡_, refl, sym, ap, _∙_, subst}
 use mathlib.Core.Logic.{inl, inr}
 use mathlib.Core.Bool.{Bool, true, false, not, cond, _&&_, _||_, Bool·beq, true≢false}
 use mathlib.Core.List.{List}
-use Prim.Native.Nat.{ℕ, _+_, _-_, _*_, _/_, _%_, _^_, _≤_, _<_, min, zero-le}
+use Prim.Native.Nat.{ℕ, _+_, _-_, _*_, _^_, _≤_, _<_, zero-le}
 use native.Mathlib.Nat.{mod-eq-of-lt}
 use native.Mathlib.Omega.{arith}
-use borrow.Author.Tests.{lt-ltb, le-ltb, le-leb, lt-leb, eq-eqb, eqb-true, ltb-true}
-use lib.Dec.{ltb, leb, eqb}
+use borrow.Author.Tests.{lt-ltb, le-ltb, le-leb, eq-eqb, eqb-true, ltb-true}
+use lib.Dec.{ltb, eqb}
 use lib.ListN.{length, getD}
 use Rattle.limb.specs.Value.{Below}
 use Rattle.numbers.specs.Limits.{counted, leastPrecision, mostPrecision, mostExponent, limbsFor}
 use Rattle.numbers.specs.Operand.{Operand, WellFormed}
 use Rattle.numbers.proofs.Limits.{two-digits, limbs-hold}
-use Rattle.rounding.specs.Mode.{Mode, modeOf, way}
+use Rattle.rounding.specs.Mode.{Mode, modeOf}
 use Rattle.rounding.specs.Answer.{Answer, rounded}
 use Rattle.rounding.specs.Sum.{add}
 use Rattle.rounding.proofs.Order.{le-or-lt}
 use Rattle.rounding.proofs.Zeros.{add-commutes}
 use Rattle.depth.specs.Columns.{topExponent, limbsUsed}
-use Rattle.depth.specs.Depth.{plus, Depth}
 use Rattle.decide.proofs.Decision.{depth-decided}
 use Rattle.checks.specs.declared.Number.{Number}
 use Rattle.checks.specs.Number.{operandOf}
@@ -39,38 +38,18 @@ use Rattle.bridge.proofs.Covered.{columns-above}
 use Rattle.bridge.proofs.Exchange.{top-exchange, deciding-exchange}
 use Rattle.descent.specs.Ready.{Room}
 use Rattle.descent.specs.Course.{Course}
-use Rattle.ending.specs.Finishing.{Left, Signed}
+use Rattle.ending.specs.Finishing.{Left}
+use Rattle.reports.specs.Signed.{Signed}
 use Rattle.ending.proofs.Finishing.{room-pos}
 use Rattle.ending.proofs.RegularEnd.{deep-enough, not-deep, rounded-signed}
 use Rattle.ending.proofs.Handed.{ordered-pair}
 use Rattle.wide.specs.declared.fill.Filled.{Filled}
 use Rattle.wide.specs.Filling.{Holding, Offered, Rounds, Fills}
-use Rattle.wide.specs.Attempted.{usedOf, Attempted}
+use Rattle.reports.specs.Counts.{usedOf}
+use Rattle.reports.proofs.Counts.{used-is}
+use Rattle.wide.specs.Attempted.{Attempted}
 
 -- ---- the limbs used
-
-module _ (k gap n : ℕ) where
-  pub used-none : 64 * k ≤ gap → 0 ≡ usedOf k gap n
-  unfolding usedOf
-  used-none h = rw (le-leb (64 * k) gap h) refl
-
-  pub used-some : gap < 64 * k → (64 * k - gap + 63) / 64 < n → (64 * k - gap + 63) / 64 ≡ usedOf k gap n
-  unfolding usedOf
-  used-some h l = rw (lt-leb (64 * k) gap h) (less ((64 * k - gap + 63) / 64) l)
-    where
-      less : (m : ℕ) → m < n → m ≡ min n m
-      less m l = omega arith
-
-  pub used-all : gap < 64 * k → n ≤ (64 * k - gap + 63) / 64 → n ≡ usedOf k gap n
-  unfolding usedOf
-  used-all h l = rw (lt-leb (64 * k) gap h) (most ((64 * k - gap + 63) / 64) l)
-    where
-      most : (m : ℕ) → n ≤ m → n ≡ min n m
-      most m l = omega arith
-
-used-is : (x : Operand) (t k gap : ℕ) → WellFormed x → x .isZero ≡ false → gap ≡ t - x .exponent → usedOf k gap (length (x .limbs)) ≡ limbsUsed t k x
-unfolding usedOf limbsUsed
-used-is x t k gap g r e = rw (r, e, g .count) refl
 
 -- the counts of two operands, in their own order and in that of the pair
 pub counted-in-order : (s : Bool) (k gap c d i j : ℕ) (xl yl : List ℕ) → c ≡ cond s gap 0 → d ≡ cond s 0 gap → i ≡ usedOf k c (length xl) → j ≡ usedOf k d (length yl)

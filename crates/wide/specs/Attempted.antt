@@ -1,9 +1,8 @@
 -- What is told of a sum that is read at once: its depth, its answer, and the limbs used. Definitions only.
-use Prim.Native.Nat.{ℕ, _+_, _-_, _*_, _/_, _≤_, min}
+use Prim.Native.Nat.{ℕ, _-_, _≤_}
 use mathlib.Core.Path.{_≡_}
-use mathlib.Core.Bool.{Bool, cond}
+use mathlib.Core.Bool.{Bool}
 use mathlib.Core.List.{List}
-use lib.Dec.{leb}
 use Rattle.numbers.specs.Operand.{Operand}
 use Rattle.rounding.specs.Mode.{Mode}
 use Rattle.rounding.specs.Sum.{add}
@@ -11,11 +10,8 @@ use Rattle.depth.specs.Bound.{deepest}
 use Rattle.depth.specs.Columns.{topExponent, limbsUsed}
 use Rattle.depth.specs.Depth.{plus, Depth}
 use Rattle.place.specs.declared.Placed.{Placed}
-use Rattle.ending.specs.Finishing.{Left, Signed}
-
--- the limbs used of n for a depth of k, of an operand that begins gap digits below the top
-unfoldable pub usedOf : ℕ → ℕ → ℕ → ℕ
-usedOf k gap n = cond (leb (64 * k) gap) 0 (min n ((64 * k - gap + 63) / 64))
+use Rattle.ending.specs.Finishing.{Left}
+use Rattle.reports.specs.Signed.{Signed}
 
 -- the answer's sign, what is told of it, and its limbs in the target; the depth, and the limbs used of each operand
 pub record Attempted (o : Mode) (p : ℕ) (x y : Operand) (exit : List ℕ) (negative : Bool) (placed : Placed) (depth first second : ℕ) : Type 0 where

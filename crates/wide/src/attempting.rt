@@ -1,7 +1,6 @@
 // A sum of two regular numbers in any order, read at once.
 ghost use mathlib.Core.Path.{_≡_};
 ghost use mathlib.Core.Bool.{true, false, not, cond, _&&_, _||_};
-ghost use Prim.Native.Nat.{_^_, _≤_};
 ghost use lib.Dec.{ltb, eqb};
 ghost use lib.ListN.{length};
 ghost use Rattle.numbers.specs.Operand.{Operand, WellFormed};
@@ -9,7 +8,7 @@ ghost use Rattle.rounding.specs.Mode.{modeOf};
 ghost use Rattle.checks.specs.Number.{operandOf};
 ghost use Rattle.descent.specs.Ready.{Room};
 ghost use Rattle.wide.specs.Filling.{Holding, Offered, Fills};
-ghost use Rattle.wide.specs.Attempted.{usedOf, Attempted};
+ghost use Rattle.wide.specs.Attempted.{Attempted};
 use crate::fill::Filled;
 use crate::fill::fill;
 use checks::Number;
@@ -73,20 +72,6 @@ fn is_level(same: bool, a: u64, b: u64, u: u64, v: u64) -> bool
     !same & ((a == b) & (u == v))
 }
 
-// The limbs used for a depth of k columns, of an operand that begins gap digits below the top.
-pub fn used(k: u64, gap: u64, limbs: usize) -> u64
-    requires { ⌜ k ≤ 2 ^ 20 ⌝ }
-    ensures { λ r. ⌜ r ≡ usedOf k gap limbs ⌝ }
-{
-    let digits = 64 * k;
-    if digits <= gap {
-        return 0;
-    }
-    let n = (digits - gap + 63) / 64;
-    let most = limbs as u64;
-    if n < most { n } else { most }
-}
-
 // Fills the target, the second operand first where so said.
 fn fill_in_order(
     p: u64,
@@ -139,8 +124,8 @@ fn round_in_order(
         negative: negative,
         placed: placed,
         depth: k,
-        first: used(k, either(swapped, 0, pair.gap), xl.len()),
-        second: used(k, either(swapped, pair.gap, 0), yl.len()),
+        first: reports::used(k, either(swapped, 0, pair.gap), xl.len()),
+        second: reports::used(k, either(swapped, pair.gap, 0), yl.len()),
     }
 }
 

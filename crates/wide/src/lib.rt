@@ -8,4 +8,3 @@ mod attempting; // attempting.rt: two regular numbers in any order
 
 pub use attempting::Wide;
 pub use attempting::attempt;
-pub use attempting::used;

@@ -1,6 +1,7 @@
 -- `entry::summed`: two zeros, one zero, its sum taken in the other order where the zero comes first, or two regular numbers. Assumes nothing.
 use borrow.Author.Needs.{needs}
-use Rattle.sums.proofs.Entries.{kind-told, zero-first}
+use Rattle.sums.proofs.Entries.{kind-told}
+use Rattle.general.proofs.Exchanged.{zero-first}
 use Rattle.sums.proofs.entry.summed.Statement.{statement}
 use Rattle.sums.proofs.entry.summed.Tie as tie
 

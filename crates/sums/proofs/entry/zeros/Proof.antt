@@ -1,6 +1,6 @@
 -- `entry::zeros`: the cleared target has as many limbs as p digits take, and the zero of the rule's sign is what two zeros report. Assumes nothing.
 use borrow.Author.Needs.{needs}
-use Rattle.sums.proofs.Zeros.{zeros-told}
+use Rattle.sums.proofs.Entries.{zeros-told}
 use Rattle.sums.proofs.entry.zeros.Statement.{statement}
 use Rattle.sums.proofs.entry.zeros.Tie as tie
 

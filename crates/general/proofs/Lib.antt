@@ -1,0 +1,3 @@
+pub mod Exchanged
+pub mod RegularReport
+pub mod RegularLevel

@@ -1,0 +1,231 @@
+// Sums of regular numbers.
+ghost use mathlib.Core.Path.{_≡_};
+ghost use mathlib.Core.Bool.{true, false, cond};
+ghost use Prim.Native.Nat.{_≤_, max};
+ghost use lib.ListN.{length};
+ghost use Rattle.numbers.specs.Operand.{Operand, WellFormed};
+ghost use Rattle.rounding.specs.Mode.{modeOf};
+ghost use Rattle.depth.specs.Depth.{plus};
+ghost use Rattle.checks.specs.Number.{operandOf};
+ghost use Rattle.reports.specs.Summed.{Reported};
+ghost use Rattle.descent.specs.Ready.{Room};
+ghost use Rattle.descent.specs.Course.{Course};
+ghost use Rattle.general.specs.Level.{Level, Differs};
+use checks::Number;
+use reports::Sum;
+use settle::Pair;
+
+// A regular number and a zero, whichever zero it is.
+pub fn single(mode: u8, x: Number, xl: &[u64], p: u64, target: &mut [u64]) -> Sum
+    requires { ⌜ (mode ≤ 3) × WellFormed (operandOf x (now xl)) × (operandOf x (now xl) .isZero ≡ false) × Room p (length (now target)) ⌝ }
+    ensures { λ r. ⌜ ((z : Operand) → WellFormed z → z .isZero ≡ true → Reported plus (modeOf mode) p (operandOf x (now (xl .entry))) z (now (target .exit)) r) ⌝ }
+{
+    let negative = x.negative;
+    let pair = Pair {
+        same: true,
+        first: x.precision,
+        second: 0,
+        gap: 0,
+        top: checks::counted_exponent(x.exponent),
+    };
+    let walked = descent::walk_down(settle::way_of(mode, negative), p, pair, xl, xl, 0, target);
+    let k = walked.columns;
+    let placed = ending::finish(mode, negative, p, pair, walked, target);
+    reports::answered(placed, negative, p, k, reports::used(k, 0, xl.len()), 0)
+}
+
+// Two regular numbers in order, the first larger from a column on where their signs are unlike.
+fn ordered(
+    mode: u8,
+    x: Number,
+    xl: &[u64],
+    y: Number,
+    yl: &[u64],
+    p: u64,
+    from: u64,
+    target: &mut [u64],
+) -> Sum
+    requires { ⌜ (operandOf y (now yl) .isZero ≡ false) × Course (operandOf x (now xl)) (operandOf y (now yl)) from × Room p (length (now target)) ⌝ }
+    ensures { λ r. ⌜ Reported plus (modeOf mode) p (operandOf x (now (xl .entry))) (operandOf y (now (yl .entry))) (now (target .exit)) r ⌝ }
+{
+    let negative = x.negative;
+    let top = checks::counted_exponent(x.exponent);
+    let gap = top - checks::counted_exponent(y.exponent);
+    let pair = Pair {
+        same: negative == y.negative,
+        first: x.precision,
+        second: y.precision,
+        gap: gap,
+        top: top,
+    };
+    let walked = descent::walk_down(
+        settle::way_of(mode, negative),
+        p,
+        pair,
+        xl,
+        yl,
+        from,
+        target,
+    );
+    let k = walked.columns;
+    let placed = ending::finish(mode, negative, p, pair, walked, target);
+    reports::answered(
+        placed,
+        negative,
+        p,
+        k,
+        reports::used(k, 0, xl.len()),
+        reports::used(k, gap, yl.len()),
+    )
+}
+
+// The first of two counts, or the second.
+fn either(second: bool, a: u64, b: u64) -> u64
+    ensures { λ r. ⌜ r ≡ cond second b a ⌝ }
+{
+    if second { b } else { a }
+}
+
+// Two regular numbers in order, the first larger from the first column on where their signs are unlike. Reports them in the other order
+// where so said.
+fn ordered_first(
+    mode: u8,
+    x: Number,
+    xl: &[u64],
+    y: Number,
+    yl: &[u64],
+    p: u64,
+    swapped: bool,
+    target: &mut [u64],
+) -> Sum
+    requires { ⌜ (operandOf y (now yl) .isZero ≡ false) × Course (operandOf x (now xl)) (operandOf y (now yl)) 0 × Room p (length (now target)) ⌝ }
+    ensures { λ r. ⌜ (swapped ≡ false → Reported plus (modeOf mode) p (operandOf x (now (xl .entry))) (operandOf y (now (yl .entry))) (now (target .exit)) r) × (swapped ≡ true → Reported plus (modeOf mode) p (operandOf y (now (yl .entry))) (operandOf x (now (xl .entry))) (now (target .exit)) r) ⌝ }
+{
+    let negative = x.negative;
+    let top = checks::counted_exponent(x.exponent);
+    let gap = top - checks::counted_exponent(y.exponent);
+    let pair = Pair {
+        same: negative == y.negative,
+        first: x.precision,
+        second: y.precision,
+        gap: gap,
+        top: top,
+    };
+    let walked = descent::walk_first(settle::way_of(mode, negative), p, pair, xl, yl, target);
+    let k = walked.columns;
+    let placed = ending::finish_full(mode, negative, p, pair, walked, target);
+    let lower = reports::used(k, gap, yl.len());
+    let upper = reports::used(k, 0, xl.len());
+    reports::answered(
+        placed,
+        negative,
+        p,
+        k,
+        either(swapped, upper, lower),
+        either(swapped, lower, upper),
+    )
+}
+
+// Two regular numbers in order, the first larger from a column on where their signs are unlike: at once where it is the first.
+fn ordered_from(
+    mode: u8,
+    x: Number,
+    xl: &[u64],
+    y: Number,
+    yl: &[u64],
+    p: u64,
+    from: u64,
+    target: &mut [u64],
+) -> Sum
+    requires { ⌜ (operandOf y (now yl) .isZero ≡ false) × Course (operandOf x (now xl)) (operandOf y (now yl)) from × Room p (length (now target)) ⌝ }
+    ensures { λ r. ⌜ Reported plus (modeOf mode) p (operandOf x (now (xl .entry))) (operandOf y (now (yl .entry))) (now (target .exit)) r ⌝ }
+{
+    if from == 0 {
+        return ordered_first(mode, x, xl, y, yl, p, false, target);
+    }
+    ordered(mode, x, xl, y, yl, p, from, target)
+}
+
+// No column in which two operands differ, of so many; or the first, where the first is larger, or the second.
+pub enum Differ {
+    Never(u64),
+    First(u64),
+    Second(u64),
+}
+
+// The larger of two.
+fn longer(a: u64, b: u64) -> u64
+    ensures { λ r. ⌜ r ≡ max a b ⌝ }
+{
+    if a < b { b } else { a }
+}
+
+// The first column in which two operands of one exponent differ.
+fn first_difference(x: Number, xl: &[u64], y: Number, yl: &[u64]) -> Differ
+    ensures { λ r. ⌜ Differs (now (xl .entry)) (now (yl .entry)) r ⌝ }
+{
+    let n = longer(xl.len() as u64, yl.len() as u64);
+    let mut k: u64 = 0;
+    while k < n {
+        let u = columns::column(xl, x.precision, 0, k);
+        let v = columns::column(yl, y.precision, 0, k);
+        if u < v {
+            return Differ::Second(k);
+        }
+        if v < u {
+            return Differ::First(k);
+        }
+        k += 1;
+    }
+    Differ::Never(k)
+}
+
+// Two regular numbers of one exponent and unlike signs.
+fn unlike(mode: u8, x: Number, xl: &[u64], y: Number, yl: &[u64], p: u64, target: &mut [u64]) -> Sum
+    requires { ⌜ Level (operandOf x (now xl)) (operandOf y (now yl)) × Room p (length (now target)) ⌝ }
+    ensures { λ r. ⌜ Reported plus (modeOf mode) p (operandOf x (now (xl .entry))) (operandOf y (now (yl .entry))) (now (target .exit)) r ⌝ }
+{
+    let d = first_difference(x, xl, y, yl);
+    match d {
+        Differ::Never(k) => {
+            parts::clear(target);
+            let sign = reports::zero_sign(mode, x.negative, y.negative);
+            reports::zero(
+                sign,
+                p,
+                k,
+                reports::used(k, 0, xl.len()),
+                reports::used(k, 0, yl.len()),
+            )
+        }
+        Differ::First(k) => ordered_from(mode, x, xl, y, yl, p, k, target),
+        Differ::Second(k) => reports::exchanged(ordered_from(mode, y, yl, x, xl, p, k, target)),
+    }
+}
+
+// Two regular numbers.
+pub fn both(
+    mode: u8,
+    x: Number,
+    xl: &[u64],
+    y: Number,
+    yl: &[u64],
+    p: u64,
+    target: &mut [u64],
+) -> Sum
+    requires { ⌜ (mode ≤ 3) × WellFormed (operandOf x (now xl)) × (operandOf x (now xl) .isZero ≡ false) × WellFormed (operandOf y (now yl)) × (operandOf y (now yl) .isZero ≡ false) × Room p (length (now target)) ⌝ }
+    ensures { λ r. ⌜ Reported plus (modeOf mode) p (operandOf x (now (xl .entry))) (operandOf y (now (yl .entry))) (now (target .exit)) r ⌝ }
+{
+    let a = checks::counted_exponent(x.exponent);
+    let b = checks::counted_exponent(y.exponent);
+    if b < a {
+        return ordered_first(mode, x, xl, y, yl, p, false, target);
+    }
+    if a < b {
+        return ordered_first(mode, y, yl, x, xl, p, true, target);
+    }
+    if x.negative == y.negative {
+        return ordered_first(mode, x, xl, y, yl, p, false, target);
+    }
+    unlike(mode, x, xl, y, yl, p, target)
+}

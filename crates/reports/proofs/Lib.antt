@@ -1,0 +1,4 @@
+pub mod Told
+pub mod Counts
+pub mod Zeros
+pub mod Agree

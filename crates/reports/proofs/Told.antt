@@ -1,0 +1,40 @@
+-- An answer as it is reported. Assumes nothing.
+use mathlib.Core.Path.{_≡_, refl, sym, ap, _∙_}
+use mathlib.Core.Bool.{Bool}
+use Prim.Native.Nat.{ℕ, _-_}
+use native.Mathlib.Omega.{arith}
+use lib.IntN.{ℤ}
+use Rattle.rounding.specs.Answer.{Answer, zeroOf, number, tooLarge, tooSmall}
+use Rattle.checks.specs.declared.Kind.the-variants.{Regular}
+use Rattle.checks.specs.Check.{accepted}
+use Rattle.checks.specs.Number.{exponentOf}
+use Rattle.place.specs.declared.Placed.{Placed}
+use Rattle.place.specs.Placed.{placedOf}
+use Rattle.reports.specs.declared.report.Sum.{Sum}
+use Rattle.reports.specs.Summed.{sumOf, refusedSum}
+use Rattle.reports.specs.Signed.{Signed}
+
+module _ (negative : Bool) (p depth first second : ℕ) (placed : Placed) where
+  pub refused-told : (placed .rule ≡ 0 → ⊥) → {s : Sum} → s ≡ refusedSum (record { rule = placed .rule; place = 3 }) depth first second
+      → (a : Answer) → Signed negative a → placed ≡ placedOf a → s ≡ sumOf a p depth first second
+  unfolding sumOf placedOf
+  refused-told h e (zeroOf n) g f = absurd g
+  refused-told h e (number n x m t) g f = absurd (h (ap (λ (q : Placed). q .rule) f))
+  refused-told h e tooLarge g f = e ∙ ap (λ (q : Placed). refusedSum (record { rule = q .rule; place = 3 }) depth first second) f
+  refused-told h e tooSmall g f = e ∙ ap (λ (q : Placed). refusedSum (record { rule = q .rule; place = 3 }) depth first second) f
+
+  pub number-told : placed .rule ≡ 0 → {v z : ℤ} → v ≡ exponentOf (placed .exponent) → z ≡ placed .ternary → (a : Answer) → Signed negative a → placed ≡ placedOf a
+      → record { number = record { negative = negative; kind = Regular; precision = p; exponent = v }; ternary = z; depth = depth; first = first; second = second; refusal = record { rule = 0; place = 0 } } ≡ sumOf a p depth first second
+  unfolding sumOf placedOf accepted
+  number-told h u i (zeroOf n) g f = absurd g
+  number-told h u i (number n x m t) g f = rw (u, i, f, g) refl
+  number-told h u i tooLarge g f = absurd (let z : 6 ≡ 0 = ap (λ (q : Placed). q .rule) (sym f) ∙ h in omega arith)
+  number-told h u i tooSmall g f = absurd (let z : 7 ≡ 0 = ap (λ (q : Placed). q .rule) (sym f) ∙ h in omega arith)
+
+-- its depth
+pub sum-depth : (a : Answer) (p d u v : ℕ) → sumOf a p d u v .depth ≡ d
+unfolding sumOf refusedSum
+sum-depth (zeroOf n) p d u v = refl
+sum-depth (number n e m t) p d u v = refl
+sum-depth tooLarge p d u v = refl
+sum-depth tooSmall p d u v = refl

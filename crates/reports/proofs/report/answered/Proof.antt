@@ -1,0 +1,26 @@
+-- `report::answered`: a rule is a refusal, and without one the answer is a number of that sign. Assumes nothing.
+use mathlib.Core.Path.{_∙_}
+use mir.Facts.{toZ-ofZ}
+use mir.Syntax.{w32}
+use Rattle.reports.proofs.Told.{refused-told}
+use Rattle.reports.proofs.Told.{number-told}
+use borrow.Author.Needs.{needs}
+use Rattle.reports.proofs.report.answered.Statement.{statement}
+use Rattle.reports.proofs.report.answered.Tie as tie
+
+refused-requires : tie.Need-refused-requires
+refused-requires c κs = search needs
+
+returns : tie.Need-returns
+returns c = refused-told _ _ _ _ _ _ (c .before .if1 .taken) (c .refused .ensures)
+
+exponent-of-requires : tie.Need-exponent-of-requires
+exponent-of-requires c κs = search needs
+
+returns-2 : tie.Need-returns-2
+returns-2 c =
+    let a = c .before .before .before .before .args in
+    number-told (a .negative) (a .p) (a .depth) (a .first) (a .second) (a .placed) (c .before .before .if1 .left) (toZ-ofZ {w = w32} (record { sfits = c .before .exponent-of .ok }) ∙ c .before .exponent-of .ensures) (toZ-ofZ (record { sfits = c .struct-told .given .1 .1 .0 .1 }))
+
+pub answered-spec : {M : Type 1} → statement M
+answered-spec = tie.close (tie.spec refused-requires returns exponent-of-requires returns-2)

@@ -1,0 +1,4 @@
+pub mod Summed
+pub mod Exchanged
+pub mod Signed
+pub mod Counts

@@ -1,0 +1,131 @@
+// What a sum reports.
+ghost use mathlib.Core.Path.{_≡_};
+ghost use Prim.Native.Nat.{_^_, _≤_};
+ghost use Rattle.rounding.specs.Mode.{modeOf};
+ghost use Rattle.rounding.specs.Answer.{Answer, zeroOf};
+ghost use Rattle.rounding.specs.Sum.{zeroSign};
+ghost use Rattle.place.specs.Placed.{placedOf};
+ghost use Rattle.reports.specs.Summed.{refusedSum, sumOf};
+ghost use Rattle.reports.specs.Exchanged.{exchangedSum};
+ghost use Rattle.reports.specs.Signed.{Signed};
+ghost use Rattle.reports.specs.Counts.{usedOf};
+use checks::Kind;
+use checks::Number;
+use checks::Refusal;
+use place::Placed;
+
+// The number, the ternary value, the depth, the limbs used of the first operand and of the second, and the refusal.
+pub struct Sum {
+    pub number: Number,
+    pub ternary: i8,
+    pub depth: u64,
+    pub first: u64,
+    pub second: u64,
+    pub refusal: Refusal,
+}
+
+// A refused sum: +0 of precision 2.
+pub fn refused(refusal: Refusal, depth: u64, first: u64, second: u64) -> Sum
+    ensures { λ r. ⌜ r ≡ refusedSum refusal depth first second ⌝ }
+{
+    let nothing = Number {
+        negative: false,
+        kind: Kind::Zero,
+        precision: 2,
+        exponent: 0,
+    };
+    Sum {
+        number: nothing,
+        ternary: 0,
+        depth: depth,
+        first: first,
+        second: second,
+        refusal: refusal,
+    }
+}
+
+// The sign of a zero sum, the one place that says it: one sign stays, and of two it is plus.
+pub fn zero_sign(mode: u8, a: bool, b: bool) -> bool
+    ensures { λ r. ⌜ r ≡ zeroSign (modeOf mode) a b ⌝ }
+{
+    if a == b { a } else { false }
+}
+
+// A zero.
+pub fn zero(negative: bool, p: u64, depth: u64, first: u64, second: u64) -> Sum
+    ensures { λ r. ⌜ r ≡ sumOf (zeroOf negative) p depth first second ⌝ }
+{
+    let number = Number {
+        negative: negative,
+        kind: Kind::Zero,
+        precision: p,
+        exponent: 0,
+    };
+    let none = Refusal { rule: 0, place: 0 };
+    Sum {
+        number: number,
+        ternary: 0,
+        depth: depth,
+        first: first,
+        second: second,
+        refusal: none,
+    }
+}
+
+// The same sum with its operands exchanged.
+pub fn exchanged(s: Sum) -> Sum
+    ensures { λ r. ⌜ r ≡ exchangedSum s ⌝ }
+{
+    let number = s.number;
+    let refusal = s.refusal;
+    Sum {
+        number: number,
+        ternary: s.ternary,
+        depth: s.depth,
+        first: s.second,
+        second: s.first,
+        refusal: refusal,
+    }
+}
+
+// The answer as it is reported.
+pub fn answered(placed: Placed, negative: bool, p: u64, depth: u64, first: u64, second: u64) -> Sum
+    ensures { λ r. ⌜ ((a : Answer) → Signed negative a → placed ≡ placedOf a → r ≡ sumOf a p depth first second) ⌝ }
+{
+    if placed.rule != 0 {
+        let refusal = Refusal {
+            rule: placed.rule,
+            place: 3,
+        };
+        return refused(refusal, depth, first, second);
+    }
+    let number = Number {
+        negative: negative,
+        kind: Kind::Regular,
+        precision: p,
+        exponent: checks::exponent_of(placed.exponent),
+    };
+    let none = Refusal { rule: 0, place: 0 };
+    Sum {
+        number: number,
+        ternary: placed.ternary,
+        depth: depth,
+        first: first,
+        second: second,
+        refusal: none,
+    }
+}
+
+// The limbs used for a depth of k columns, of an operand that begins gap digits below the top.
+pub fn used(k: u64, gap: u64, limbs: usize) -> u64
+    requires { ⌜ k ≤ 2 ^ 20 ⌝ }
+    ensures { λ r. ⌜ r ≡ usedOf k gap limbs ⌝ }
+{
+    let digits = 64 * k;
+    if digits <= gap {
+        return 0;
+    }
+    let n = (digits - gap + 63) / 64;
+    let most = limbs as u64;
+    if n < most { n } else { most }
+}

@@ -1,3 +1,0 @@
-pub mod Summed
-pub mod Exchanged
-pub mod Level
