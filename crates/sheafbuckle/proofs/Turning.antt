@@ -11,9 +11,7 @@ use Rattle.reports.specs.declared.report.Sum.{Sum}
 use Rattle.reports.specs.Summed.{Summed}
 use Rattle.sums.proofs.Turned.{summed-turned}
 use Rattle.plain.specs.declared.PlainNumber.{PlainNumber}
-use Rattle.plain.specs.declared.PlainSum.{PlainSum}
-use Rattle.plain.specs.Plain.{numberFrom, sumFrom}
-use Rattle.plain.proofs.Told.{summed-told}
+use Rattle.plain.specs.Plain.{numberFrom}
 
 pub turned-said : (t : Bool) (x : Number) (e : ℤ) → e ≡ x .exponent
     → record { negative = not (Bool·beq (x .negative) t); kind = x .kind; precision = x .precision; exponent = e } ≡ cond t (turnedNumber x) x
@@ -29,11 +27,11 @@ turned-said t x e same = rw same (go t (x .negative))
     go false true = refl
     go false false = refl
 
-pub summed-either : (t : Bool) (mode : ℕ) (x y : PlainNumber) (xl yl : List ℕ) (p : ℕ) (entry exit : List ℕ) (a b c : Number) (s : Sum) (r : PlainSum)
-    → a ≡ numberFrom x → b ≡ numberFrom y → c ≡ cond t (turnedNumber b) b → sumFrom r ≡ s → Summed plus mode a xl c yl p entry exit s
-    → (t ≡ false → Summed plus mode (numberFrom x) xl (numberFrom y) yl p entry exit (sumFrom r))
-    × (t ≡ true → Summed minus mode (numberFrom x) xl (numberFrom y) yl p entry exit (sumFrom r))
-summed-either t mode x y xl yl p entry exit a b c s r first second turned whole h = (
-  (λ f. summed-told plus mode x y xl yl p entry exit a b s r first second whole (rw (turned, f) at h)),
-  (λ f. summed-told minus mode x y xl yl p entry exit a b s r first second whole (summed-turned mode a xl b yl p entry exit s (rw (turned, f) at h))),
+pub summed-either : (t : Bool) (mode : ℕ) (x y : PlainNumber) (xl yl : List ℕ) (p : ℕ) (entry exit : List ℕ) (a b c : Number) (s : Sum)
+    → a ≡ numberFrom x → b ≡ numberFrom y → c ≡ cond t (turnedNumber b) b → Summed plus mode a xl c yl p entry exit s
+    → (t ≡ false → Summed plus mode (numberFrom x) xl (numberFrom y) yl p entry exit s)
+    × (t ≡ true → Summed minus mode (numberFrom x) xl (numberFrom y) yl p entry exit s)
+summed-either t mode x y xl yl p entry exit a b c s first second turned h = (
+  (λ f. let g = rw (turned, f) at h in rw (first, second) at g),
+  (λ f. let g = summed-turned mode a xl b yl p entry exit s (rw (turned, f) at h) in rw (first, second) at g),
 )

@@ -4,6 +4,7 @@ use plain::PlainNumber;
 use plain::PlainSum;
 use plain::number_from;
 use plain::plain_sum;
+use reports::Sum;
 ghost use mathlib.Core.Path.{_≡_};
 ghost use mathlib.Core.Bool.{true, false, cond};
 ghost use Rattle.checks.specs.Number.{turnedNumber};
@@ -25,7 +26,7 @@ fn turned_if(turn: bool, x: Number) -> Number
 }
 
 // x + y, or x - y where so said, rounded to p digits.
-fn sum_plain(
+fn sum_turned(
     turn: bool,
     mode: u8,
     x: PlainNumber,
@@ -34,11 +35,11 @@ fn sum_plain(
     yl: &[u64],
     p: u64,
     target: &mut [u64],
-) -> PlainSum
-    ensures { λ r. ⌜ (turn ≡ false → Summed plus mode (numberFrom x) (now (xl .entry)) (numberFrom y) (now (yl .entry)) p (now (target .entry)) (now (target .exit)) (sumFrom r)) × (turn ≡ true → Summed minus mode (numberFrom x) (now (xl .entry)) (numberFrom y) (now (yl .entry)) p (now (target .entry)) (now (target .exit)) (sumFrom r)) ⌝ }
+) -> Sum
+    ensures { λ r. ⌜ (turn ≡ false → Summed plus mode (numberFrom x) (now (xl .entry)) (numberFrom y) (now (yl .entry)) p (now (target .entry)) (now (target .exit)) r) × (turn ≡ true → Summed minus mode (numberFrom x) (now (xl .entry)) (numberFrom y) (now (yl .entry)) p (now (target .entry)) (now (target .exit)) r) ⌝ }
 {
     let second = turned_if(turn, number_from(y));
-    plain_sum(sums::add(mode, number_from(x), xl, second, yl, p, target))
+    sums::add(mode, number_from(x), xl, second, yl, p, target)
 }
 
 // x + y, rounded to p digits.
@@ -54,7 +55,7 @@ pub extern "C" fn sheafbuckle_add(
 ) -> PlainSum
     ensures { λ r. ⌜ Summed plus mode (numberFrom x) (now (xl .entry)) (numberFrom y) (now (yl .entry)) p (now (target .entry)) (now (target .exit)) (sumFrom r) ⌝ }
 {
-    sum_plain(false, mode, x, xl, y, yl, p, target)
+    plain_sum(sum_turned(false, mode, x, xl, y, yl, p, target))
 }
 
 // x - y, rounded to p digits.
@@ -70,7 +71,7 @@ pub extern "C" fn sheafbuckle_subtract(
 ) -> PlainSum
     ensures { λ r. ⌜ Summed minus mode (numberFrom x) (now (xl .entry)) (numberFrom y) (now (yl .entry)) p (now (target .entry)) (now (target .exit)) (sumFrom r) ⌝ }
 {
-    sum_plain(true, mode, x, xl, y, yl, p, target)
+    plain_sum(sum_turned(true, mode, x, xl, y, yl, p, target))
 }
 
 // x alone, rounded to p digits.

@@ -4,14 +4,18 @@ use mathlib.Core.Path.{refl}
 use Rattle.sheafbuckle.proofs.arithmetic.sheafbuckle_subtract.Statement.{statement}
 use Rattle.sheafbuckle.proofs.arithmetic.sheafbuckle_subtract.Tie as tie
 
-sum-plain-requires : tie.Need-sum-plain-requires
-sum-plain-requires c κs = search needs
+sum-turned-requires : tie.Need-sum-turned-requires
+sum-turned-requires c κs = search needs
+
+plain-sum-requires : tie.Need-plain-sum-requires
+plain-sum-requires c κs = search needs
 
 same-length : tie.Need-same-length
 same-length c = search needs
 
 returns : tie.Need-returns
-returns c = c .before .before .sum-plain .ensures .1 refl
+returns c = rw (c .plain-sum .ensures) (c .before .before .before .sum-turned .ensures .1 refl)
 
 pub sheafbuckle-subtract-spec : {M : Type 1} → statement M
-sheafbuckle-subtract-spec = tie.close (tie.spec sum-plain-requires same-length returns)
+sheafbuckle-subtract-spec =
+    tie.close (tie.spec sum-turned-requires plain-sum-requires same-length returns)
