@@ -1,11 +1,11 @@
 -- A line's buffer: one byte more is kept, or the buffer is full and stays as it is. Assumes nothing.
 use mathlib.Core.Path.{_≡_, refl, sym, ap, _∙_}
 use mathlib.Core.List.{List, [], _∷_, _++_}
-use Prim.Native.Nat.{ℕ, suc, _+_, _-_, _≤_, _<_}
+use Prim.Native.Nat.{ℕ, _+_, _-_, _≤_, _<_}
 use native.Mathlib.Omega.{arith}
 use native.Mathlib.Numerals.{add-one}
 use lib.ListN.{length, take, drop, set, length-append, length-take, take-append-drop}
-use lib.Seq.{take-all, take-length, take-append-le, take-suc-set, drop-set-lt, drop-drop, length-take-le}
+use lib.Seq.{take-all, take-append-le, take-suc-set, drop-set-lt, drop-drop, length-take-le}
 use Rattle.lines.specs.Writing.{onto}
 use Rattle.cutting.specs.Lines.{lineRoom, cutLine}
 use Rattle.cutting.specs.Group.{longer, Grown}

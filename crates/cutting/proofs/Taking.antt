@@ -1,14 +1,14 @@
 -- One byte taken into a group: the line under way gets it, and the other two stay. Assumes nothing.
-use mathlib.Core.Path.{_≡_, refl, sym, ap, _∙_}
-use mathlib.Core.Bool.{Bool, true, false, cond}
-use mathlib.Core.List.{List, [], _∷_, _++_}
-use Prim.Native.Nat.{ℕ, suc, _+_, _-_, _≤_, _<_}
+use mathlib.Core.Path.{_≡_, refl, ap, _∙_}
+use mathlib.Core.Bool.{cond}
+use mathlib.Core.List.{List}
+use Prim.Native.Nat.{ℕ, _+_, _≤_, _<_}
 use native.Mathlib.Omega.{arith}
 use borrow.Author.Tests.{eq-eqb, ne-eqb}
-use lib.ListN.{length, take, drop}
+use lib.ListN.{take}
 use Rattle.cutting.specs.declared.Held.{Held}
 use Rattle.cutting.specs.Lines.{lineRoom, endsLine}
-use Rattle.cutting.specs.Group.{Group, longer, withByte, groupIn, Grown, Within, Takes}
+use Rattle.cutting.specs.Group.{longer, withByte, groupIn, Grown, Within, Takes}
 
 same : (n : ℕ) (l : List ℕ) → n ≤ lineRoom → Grown n n l l
 same n l h = record { more = omega arith; fits = h; rest = refl }

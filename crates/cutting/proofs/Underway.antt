@@ -1,8 +1,8 @@
 -- The bytes of a piece go to a group one by one, up to its third LF or to the end of the piece. Assumes nothing.
 use mathlib.Core.Path.{_≡_, refl, sym, ap, _∙_}
-use mathlib.Core.Bool.{Bool, true, false, cond}
-use mathlib.Core.List.{List, [], _∷_, _++_}
-use Prim.Native.Nat.{ℕ, suc, _+_, _-_, _≤_, _<_}
+use mathlib.Core.Bool.{true, false}
+use mathlib.Core.List.{List, [], _∷_}
+use Prim.Native.Nat.{ℕ, suc, _+_, _≤_, _<_}
 use native.Mathlib.Omega.{arith}
 use native.Mathlib.Numerals.{add-one}
 use borrow.Author.Tests.{le-leb, lt-leb}
@@ -10,7 +10,6 @@ use lib.ListN.{length, take, drop, getD, drop-of-length-le}
 use lib.Seq.{drop-cons, length-take-le}
 use Rattle.lines.specs.Writing.{onto}
 use Rattle.cutting.specs.declared.Held.{Held}
-use Rattle.cutting.specs.declared.Progress.{Progress}
 use Rattle.cutting.specs.Lines.{lineRoom}
 use Rattle.cutting.specs.Group.{Group, isWhole, withByte, after, taken, groupIn, heldOf, Cuts, Grown, Within, Counts, Rooms, Takes}
 use Rattle.cutting.proofs.Keeping.{grown-twice, held-is}

@@ -3,23 +3,22 @@ use mathlib.Core.Path.{_≡_, refl, sym, ap, _∙_, subst}
 use mathlib.Core.Logic.{inl, inr}
 use mathlib.Core.Bool.{Bool, true, false, not, cond, _&&_, _||_, Bool·beq, true≢false}
 use mathlib.Core.List.{List}
-use Prim.Native.Nat.{ℕ, _+_, _-_, _*_, _/_, _%_, _^_, _≤_, _<_, min, zero-le}
+use Prim.Native.Nat.{ℕ, _+_, _-_, _*_, _/_, _^_, _≤_, _<_, min, zero-le}
 use native.Mathlib.Nat.{mod-eq-of-lt}
 use native.Mathlib.Omega.{arith}
 use borrow.Author.Tests.{lt-ltb, le-ltb, le-leb, lt-leb, eq-eqb, eqb-true, ltb-true}
-use lib.Dec.{ltb, leb, eqb}
+use lib.Dec.{ltb, eqb}
 use lib.ListN.{length, getD}
 use Rattle.limb.specs.Value.{Below}
 use Rattle.numbers.specs.Limits.{counted, leastPrecision, mostPrecision, mostExponent, limbsFor}
 use Rattle.numbers.specs.Operand.{Operand, WellFormed}
 use Rattle.numbers.proofs.Limits.{two-digits, limbs-hold}
-use Rattle.rounding.specs.Mode.{Mode, modeOf, way}
-use Rattle.rounding.specs.Answer.{Answer, rounded}
+use Rattle.rounding.specs.Mode.{Mode, modeOf}
+use Rattle.rounding.specs.Answer.{Answer}
 use Rattle.rounding.specs.Sum.{add}
 use Rattle.rounding.proofs.Order.{le-or-lt}
 use Rattle.rounding.proofs.Zeros.{add-commutes}
 use Rattle.depth.specs.Columns.{topExponent, limbsUsed}
-use Rattle.depth.specs.Depth.{plus, Depth}
 use Rattle.decide.proofs.Decision.{depth-decided}
 use Rattle.checks.specs.declared.Number.{Number}
 use Rattle.checks.specs.Number.{operandOf}

@@ -1,10 +1,5 @@
 -- `stream::keep`: the byte goes behind those that are held, or the buffer is full. Assumes nothing.
-use Prim.Native.Nat.{_≤_, _<_}
-use mathlib.Core.Path.{_≡_}
 use borrow.Author.Needs.{needs}
-use native.Mathlib.Omega.{arith}
-use lib.ListN.{length, length-set}
-use Rattle.cutting.specs.Lines.{lineRoom}
 use Rattle.cutting.proofs.Keeping.{kept, grown, full, stays}
 use Rattle.cutting.proofs.keep.Statement.{statement}
 use Rattle.cutting.proofs.keep.Tie as tie
