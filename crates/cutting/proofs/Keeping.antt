@@ -27,14 +27,14 @@ module _ (l : List ℕ) (n b : ℕ) (whole : length l ≡ lineRoom) where
       rw (take-all n l)
       (sym (take-append-le lineRoom l (b ∷ []) (omega arith) ∙ take-all lineRoom l (omega arith)))
 
-  pub stays : n ≤ lineRoom → Grown n n l l
-  stays h = record { more = omega arith; fits = h; rest = refl }
-
 -- what stays behind n bytes stays behind more
 pub rest-later : (n m : ℕ) (a b : List ℕ) → n ≤ m → drop n a ≡ drop n b → drop m a ≡ drop m b
 rest-later n m a b h e =
     let k : n + (m - n) ≡ m = omega arith in
     rw (← k) (rw (← drop-drop, ← drop-drop) (ap (drop (m - n)) e))
+
+pub grown-none : (n : ℕ) (l : List ℕ) → n ≤ lineRoom → Grown n n l l
+grown-none n l h = record { more = omega arith; fits = h; rest = refl }
 
 pub grown-twice : {n m k : ℕ} {a b c : List ℕ} → Grown n m a b → Grown m k b c → Grown n k a c
 grown-twice {n} {m} {k} {a} {b} {c} g h =

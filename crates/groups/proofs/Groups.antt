@@ -32,7 +32,7 @@ use Rattle.desklines.proofs.Tellings.{refusal-fits, refusal-length, limbs-few, 
 use Rattle.groups.proofs.Numbers.{part-length}
 use Rattle.groups.proofs.Formed.{reported-formed}
 
-earlier-first : (r s : Refusal) → (r .rule ≡ 0 → ⊥) → earlier r s ≡ r
+pub earlier-first : (r s : Refusal) → (r .rule ≡ 0 → ⊥) → earlier r s ≡ r
 unfolding earlier
 earlier-first r s n = simp (ne-eqb (r .rule) 0 n)
 
@@ -40,7 +40,7 @@ earlier-second : (r s : Refusal) → r .rule ≡ 0 → earlier r s ≡ s
 unfolding earlier
 earlier-second r s e = simp (eq-eqb (r .rule) 0 e)
 
-ruled : (c : Refusal) → (c .rule ≡ 0 → ⊥) → c ≡ accepted → ⊥
+pub ruled : (c : Refusal) → (c .rule ≡ 0 → ⊥) → c ≡ accepted → ⊥
 unfolding accepted
 ruled c n e = n (ap (λ (r : Refusal). r .rule) e)
 
