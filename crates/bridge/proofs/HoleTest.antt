@@ -3,27 +3,24 @@ use mathlib.Core.Path.{_≡_, refl, sym, ap, _∙_}
 use mathlib.Core.Bool.{Bool, true, false, not, cond, _&&_}
 use mathlib.Core.List.{List}
 use Prim.Native.Nat.{ℕ, suc, _+_, _-_, _*_, _/_, _%_, _^_, _≤_, _<_}
-use native.Mathlib.Nat.{le-trans, le-of-eq, lt-of-lt-of-le, add-mul-div-left, add-mul-mod-self-left, mod-eq-of-lt, mul-assoc, pow-succ'}
+use native.Mathlib.Nat.{add-mul-div-left, add-mul-mod-self-left, mul-assoc, pow-succ'}
 use native.Mathlib.Omega.{arith}
-use borrow.Author.Tests.{eqb-true, eqb-false, eq-eqb, ne-eqb}
 use lib.Dec.{eqb}
 use lib.ListN.{length, getD, drop}
 use lib.Pow.{pow-pos, pow-add}
 use lib.Ieee.{size}
 use Rattle.limb.specs.Value.{valueOf}
-use Rattle.limb.proofs.Value.{value-drop, value-lt, base-pow}
+use Rattle.limb.proofs.Value.{value-drop}
 use Rattle.numbers.specs.Limits.{limbsFor}
 use Rattle.numbers.specs.Operand.{Operand, mantissa, spareBits, WellFormed}
-use Rattle.numbers.proofs.Digits.{precision-two}
 use Rattle.numbers.proofs.Limits.{limbs-fewest}
 use Rattle.rounding.specs.Mode.{Mode, way}
-use Rattle.rounding.proofs.Order.{mul-one-one}
 use Rattle.decide.specs.Table.{some?, odd?, hole?, holeBySize}
 use Rattle.decide.specs.Decide.{decideAt}
 use Rattle.settle.specs.Rows.{rowOf}
 use Rattle.settle.specs.declared.rows.Row.the-variants.{Hole}
 use Rattle.bridge.specs.Verdict.{pairOf, Ordered}
-use Rattle.bridge.proofs.Read.{value-is, width-is, size-mantissa}
+use Rattle.bridge.proofs.Read.{width-is, size-mantissa}
 use Rattle.bridge.proofs.Rows.{eqb-none}
 use Rattle.bridge.proofs.Told.{pair-same, pair-gap}
 use Rattle.bridge.proofs.Theorems.{hole-place, hole-decision}
@@ -37,50 +34,6 @@ module _ (z : Operand) (g : WellFormed z) (r : z .isZero ≡ false) where
 
   abbrev b : ℕ
   b = spareBits (z .precision)
-
-  -- a power of two has no digit 1 but the first
-  pub power-limbs : eqb (mantissa z) (2 ^ (m - 1)) ≡ eqb (valueOf l % 2 ^ (64 * length l - 1)) 0
-  power-limbs = go (eqb (mantissa z) (2 ^ (m - 1))) refl
-    where
-      N : ℕ
-      N = 2 ^ (64 * length l - 1)
-
-      N-is : N ≡ 2 ^ (m - 1) * 2 ^ b
-      N-is = ap (λ (n : ℕ). 2 ^ n) (steps (64 * length l) m b (width-is z g r) (precision-two z g)) ∙ pow-add 2 (m - 1) b
-        where
-          steps : (n m b : ℕ) → n ≡ m + b → 2 ≤ m → n - 1 ≡ m - 1 + b
-          steps n m b e h = omega arith
-
-      N-le : N ≤ valueOf l
-      N-le = le-trans (le-of-eq (ap (λ (n : ℕ). 2 ^ (64 * n - 1)) (g .count))) (g .regular r .lead)
-
-      N-twice : valueOf l < N + N
-      N-twice = lt-of-lt-of-le (value-lt (2 ^ 64) l (g .limb)) (le-of-eq (base-pow (length l) ∙ ap (λ (n : ℕ). 2 ^ n) (one (64 * length l) m b (width-is z g r) (precision-two z g)) ∙ pow-succ' 2 (64 * length l - 1) ∙ double N))
-        where
-          one : (n m b : ℕ) → n ≡ m + b → 2 ≤ m → n ≡ suc (n - 1)
-          one n m b e h = omega arith
-
-          double : (n : ℕ) → 2 * n ≡ n + n
-          double n = omega arith
-
-      rest : valueOf l % N ≡ valueOf l - N
-      rest = ap (λ (n : ℕ). n % N) (split (valueOf l) N N-le) ∙ add-mul-mod-self-left (valueOf l - N) N 1 ∙ mod-eq-of-lt (less (valueOf l) N N-twice (pow-pos (64 * length l - 1)))
-        where
-          split : (v n : ℕ) → n ≤ v → v ≡ v - n + n * 1
-          split v n h = omega arith
-
-          less : (v n : ℕ) → v < n + n → 0 < n → v - n < n
-          less v n h k = omega arith
-
-      none : (v n : ℕ) → v ≡ n → v - n ≡ 0
-      none v n e = omega arith
-
-      back : (v n : ℕ) → n ≤ v → v - n ≡ 0 → v ≡ n
-      back v n h e = omega arith
-
-      go : (t : Bool) → eqb (mantissa z) (2 ^ (m - 1)) ≡ t → t ≡ eqb (valueOf l % N) 0
-      go true e = sym (eq-eqb (valueOf l % N) 0 (rest ∙ none (valueOf l) N (value-is z g r ∙ ap (λ (n : ℕ). n * 2 ^ b) (eqb-true (mantissa z) (2 ^ (m - 1)) e) ∙ sym N-is)))
-      go false e = sym (ne-eqb (valueOf l % N) 0 (λ f. eqb-false (mantissa z) (2 ^ (m - 1)) e (mul-one-one (mantissa z) (2 ^ (m - 1)) (2 ^ b) (pow-pos b) (sym (value-is z g r) ∙ back (valueOf l) N N-le (sym rest ∙ f) ∙ N-is))))
 
   -- the last digit stands above the spare bits of the lowest limb
   pub last-digit : mantissa z % 2 ≡ getD l 0 0 / 2 ^ (64 * length l - m) % 2

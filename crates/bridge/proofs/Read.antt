@@ -4,7 +4,7 @@ use mathlib.Core.Logic.{inl, inr}
 use mathlib.Core.Bool.{false}
 use mathlib.Core.List.{List}
 use Prim.Native.Nat.{ℕ, suc, _+_, _-_, _*_, _/_, _^_, _≤_, _<_}
-use native.Mathlib.Nat.{zero-add, le-trans, le-of-eq, lt-of-lt-of-le, mul-right-comm, mul-assoc, mul-one, mul-le-mul-right, mul-lt-mul-of-pos-right, div-add-mod', mul-div-mul-right, mul-div-cancel, div-div-eq-div-mul, div-mul-le-self, le-div-iff-mul-le, div-lt-iff-lt-mul}
+use native.Mathlib.Nat.{zero-add, le-trans, le-of-eq, lt-of-lt-of-le, mul-right-comm, mul-assoc, mul-one, mul-le-mul-right, mul-lt-mul-of-pos-right, div-add-mod', mul-div-mul-right, mul-div-cancel, div-mul-le-self, le-div-iff-mul-le, div-lt-iff-lt-mul}
 use native.Mathlib.Omega.{arith}
 use lib.ListN.{length}
 use lib.Ieee.{size}

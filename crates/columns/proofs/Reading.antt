@@ -7,7 +7,7 @@ use native.Mathlib.Nat.{div-eq-of-lt, div-lt-iff-lt-mul, div-div-eq-div-mul, div
 use native.Mathlib.Omega.{arith}
 use lib.ListN.{length, getD, List·getD-eq-default}
 use lib.Bits.{bitOr, or-comm, or-zero-r}
-use lib.Pow.{pow-add, pow-pos, pow-mono, shl-lt, shl-shr}
+use lib.Pow.{pow-add, pow-pos, pow-mono, shl-lt}
 use borrow.Author.Tests.{lt-ltb, le-ltb}
 use Rattle.limb.specs.Value.{valueOf, valueIn, Below}
 use Rattle.limb.proofs.Value.{value-lt, base-pow}
@@ -58,14 +58,6 @@ module _ (gap : ℕ) (l : List ℕ) where
         let fits : valueOf l * 2 ^ (64 * k) < 2 ^ (64 * length l + 64 * k) = shl-lt (64 * length l) (64 * k) (value-small l h) in
         let room : 2 ^ (64 * length l + 64 * k) ≤ 2 ^ (64 * k + (64 * length l + gap)) = pow-mono {i = 64 * length l + 64 * k} {j = 64 * k + (64 * length l + gap)} (omega arith) in
         div-lt-iff-lt-mul (pow-pos (64 * length l + gap)) .1 (omega (arith, pow-add 2 (64 * k) (64 * length l + gap)))
-
-  -- below the last digit all is read
-  pub read-all : (k : ℕ) → 64 * length l + gap ≤ 64 * k → readTo k gap l ≡ valueOf l * 2 ^ (64 * k - 64 * length l - gap)
-  unfolding readTo
-  read-all k e =
-      let d : ℕ = 64 * k - 64 * length l - gap in
-      ap (λ (n : ℕ). valueOf l * 2 ^ n / 2 ^ (64 * length l + gap)) (omega arith) ∙ ap (λ (n : ℕ). n / 2 ^ (64 * length l + gap)) (moved-twice (valueOf l) d (64 * length l + gap))
-      ∙ shl-shr (valueOf l * 2 ^ d) (64 * length l + gap)
 
 -- fewer columns are the first of more
 pub read-fewer : (k j gap : ℕ) (l : List ℕ) → readTo (k + j) gap l / 2 ^ (64 * j) ≡ readTo k gap l

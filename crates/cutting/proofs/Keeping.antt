@@ -1,11 +1,11 @@
 -- A line's buffer: one byte more is kept, or the buffer is full and stays as it is. Assumes nothing.
 use mathlib.Core.Path.{_≡_, refl, sym, ap, _∙_}
 use mathlib.Core.List.{List, [], _∷_, _++_}
-use Prim.Native.Nat.{ℕ, suc, _+_, _-_, _≤_, _<_}
+use Prim.Native.Nat.{ℕ, _+_, _-_, _≤_, _<_}
 use native.Mathlib.Omega.{arith}
 use native.Mathlib.Numerals.{add-one}
 use lib.ListN.{length, take, drop, set, length-append, length-take, take-append-drop}
-use lib.Seq.{take-all, take-length, take-append-le, take-suc-set, drop-set-lt, drop-drop, length-take-le}
+use lib.Seq.{take-all, take-append-le, take-suc-set, drop-set-lt, drop-drop, length-take-le}
 use Rattle.lines.specs.Writing.{onto}
 use Rattle.cutting.specs.Lines.{lineRoom, cutLine}
 use Rattle.cutting.specs.Group.{longer, Grown}
@@ -27,14 +27,14 @@ module _ (l : List ℕ) (n b : ℕ) (whole : length l ≡ lineRoom) where
       rw (take-all n l)
       (sym (take-append-le lineRoom l (b ∷ []) (omega arith) ∙ take-all lineRoom l (omega arith)))
 
-  pub stays : n ≤ lineRoom → Grown n n l l
-  stays h = record { more = omega arith; fits = h; rest = refl }
-
 -- what stays behind n bytes stays behind more
 pub rest-later : (n m : ℕ) (a b : List ℕ) → n ≤ m → drop n a ≡ drop n b → drop m a ≡ drop m b
 rest-later n m a b h e =
     let k : n + (m - n) ≡ m = omega arith in
     rw (← k) (rw (← drop-drop, ← drop-drop) (ap (drop (m - n)) e))
+
+pub grown-none : (n : ℕ) (l : List ℕ) → n ≤ lineRoom → Grown n n l l
+grown-none n l h = record { more = omega arith; fits = h; rest = refl }
 
 pub grown-twice : {n m k : ℕ} {a b c : List ℕ} → Grown n m a b → Grown m k b c → Grown n k a c
 grown-twice {n} {m} {k} {a} {b} {c} g h =

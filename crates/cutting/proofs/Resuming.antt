@@ -1,18 +1,15 @@
 -- A group under way and what follows it: the lines of both are those of the whole. Assumes nothing.
 use mathlib.Core.Path.{_≡_, refl, sym, ap, _∙_}
 use mathlib.Core.Bool.{Bool, true, false, cond}
-use mathlib.Core.List.{List, [], _∷_, _++_, map, append-nil, append-assoc}
+use mathlib.Core.List.{List, [], _∷_, _++_, map, append-assoc}
 use Prim.Native.Nat.{ℕ, zero, suc, _+_, _-_, _≤_, _<_}
 use native.Mathlib.Omega.{arith}
 use native.Mathlib.Decide.{decLe}
-use borrow.Author.Tests.{eq-eqb, ne-eqb, leb-true, leb-false, le-leb, lt-leb}
-use lib.Dec.{leb, eqb}
-use lib.ListN.{length, take, drop, length-append}
-use lib.Seq.{take-all, take-append-le, take-take, length-take-le}
-use Rattle.lines.specs.Line.{longestLine}
+use borrow.Author.Tests.{leb-true, leb-false}
+use lib.ListN.{length, take}
+use lib.Seq.{take-all, take-append-le, length-take-le}
 use Rattle.cutting.specs.Lines.{lineRoom, endsLine, before, linesOf, cutLine}
 use Rattle.cutting.specs.Group.{Group, noGroup, isWhole, longer, withByte, after, taken}
-use Rattle.cutting.proofs.Underway.{after-whole, taken-whole, after-byte, taken-byte}
 
 -- a line that is under way counts, if it has a byte
 unfoldable pub some : List ℕ → List (List ℕ)

@@ -1,17 +1,15 @@
 -- One byte taken into a group: the line under way gets it, and the other two stay. Assumes nothing.
-use mathlib.Core.Path.{_≡_, refl, sym, ap, _∙_}
-use mathlib.Core.Bool.{Bool, true, false, cond}
-use mathlib.Core.List.{List, [], _∷_, _++_}
-use Prim.Native.Nat.{ℕ, suc, _+_, _-_, _≤_, _<_}
+use mathlib.Core.Path.{_≡_, ap, _∙_}
+use mathlib.Core.Bool.{cond}
+use mathlib.Core.List.{List}
+use Prim.Native.Nat.{ℕ, _+_, _<_}
 use native.Mathlib.Omega.{arith}
 use borrow.Author.Tests.{eq-eqb, ne-eqb}
-use lib.ListN.{length, take, drop}
+use lib.ListN.{take}
 use Rattle.cutting.specs.declared.Held.{Held}
-use Rattle.cutting.specs.Lines.{lineRoom, endsLine}
-use Rattle.cutting.specs.Group.{Group, longer, withByte, groupIn, Grown, Within, Takes}
-
-same : (n : ℕ) (l : List ℕ) → n ≤ lineRoom → Grown n n l l
-same n l h = record { more = omega arith; fits = h; rest = refl }
+use Rattle.cutting.specs.Lines.{endsLine}
+use Rattle.cutting.specs.Group.{longer, withByte, groupIn, Grown, Within, Takes}
+use Rattle.cutting.proofs.Keeping.{grown-none}
 
 pub remaining : (n : ℕ) → n < 3 → (n ≡ 0 → ⊥) → (n ≡ 1 → ⊥) → n ≡ 2
 remaining n h z y = omega arith
@@ -26,8 +24,8 @@ module _ (h : Held) (b lines n : ℕ) (one two three new : List ℕ) (within : W
   takes-first e t g = record {
     group = simp (eq-eqb (h .lines) 0 e, t, count ∙ counted b (h .lines) 0 e);
     first = g;
-    second = same (h .second) two (within .second);
-    third = same (h .third) three (within .third);
+    second = grown-none (h .second) two (within .second);
+    third = grown-none (h .third) three (within .third);
   }
 
   pub takes-second : (h .lines ≡ 0 → ⊥) → h .lines ≡ 1 → take n new ≡ longer (take (h .second) two) b → Grown (h .second) n two new
@@ -35,9 +33,9 @@ module _ (h : Held) (b lines n : ℕ) (one two three new : List ℕ) (within : W
   unfolding groupIn withByte
   takes-second z e t g = record {
     group = simp (ne-eqb (h .lines) 0 z, eq-eqb (h .lines) 1 e, t, count ∙ counted b (h .lines) 1 e);
-    first = same (h .first) one (within .first);
+    first = grown-none (h .first) one (within .first);
     second = g;
-    third = same (h .third) three (within .third);
+    third = grown-none (h .third) three (within .third);
   }
 
   pub takes-third : (h .lines ≡ 0 → ⊥) → (h .lines ≡ 1 → ⊥) → h .lines ≡ 2 → take n new ≡ longer (take (h .third) three) b → Grown (h .third) n three new
@@ -45,7 +43,7 @@ module _ (h : Held) (b lines n : ℕ) (one two three new : List ℕ) (within : W
   unfolding groupIn withByte
   takes-third z y e t g = record {
     group = simp (ne-eqb (h .lines) 0 z, ne-eqb (h .lines) 1 y, t, count ∙ counted b (h .lines) 2 e);
-    first = same (h .first) one (within .first);
-    second = same (h .second) two (within .second);
+    first = grown-none (h .first) one (within .first);
+    second = grown-none (h .second) two (within .second);
     third = g;
   }

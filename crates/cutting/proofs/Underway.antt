@@ -1,8 +1,8 @@
 -- The bytes of a piece go to a group one by one, up to its third LF or to the end of the piece. Assumes nothing.
 use mathlib.Core.Path.{_≡_, refl, sym, ap, _∙_}
-use mathlib.Core.Bool.{Bool, true, false, cond}
-use mathlib.Core.List.{List, [], _∷_, _++_}
-use Prim.Native.Nat.{ℕ, suc, _+_, _-_, _≤_, _<_}
+use mathlib.Core.Bool.{true, false}
+use mathlib.Core.List.{List, [], _∷_}
+use Prim.Native.Nat.{ℕ, suc, _+_, _≤_, _<_}
 use native.Mathlib.Omega.{arith}
 use native.Mathlib.Numerals.{add-one}
 use borrow.Author.Tests.{le-leb, lt-leb}
@@ -10,10 +10,8 @@ use lib.ListN.{length, take, drop, getD, drop-of-length-le}
 use lib.Seq.{drop-cons, length-take-le}
 use Rattle.lines.specs.Writing.{onto}
 use Rattle.cutting.specs.declared.Held.{Held}
-use Rattle.cutting.specs.declared.Progress.{Progress}
-use Rattle.cutting.specs.Lines.{lineRoom}
 use Rattle.cutting.specs.Group.{Group, isWhole, withByte, after, taken, groupIn, heldOf, Cuts, Grown, Within, Counts, Rooms, Takes}
-use Rattle.cutting.proofs.Keeping.{grown-twice, held-is}
+use Rattle.cutting.proofs.Keeping.{grown-none, grown-twice, held-is}
 
 -- a whole group takes nothing
 pub after-whole : (g : Group) (bs : List ℕ) → isWhole g ≡ true → after g bs ≡ g
@@ -88,9 +86,6 @@ pub record Going (start : Held) (bytes one two three one' two' three' : List ℕ
   pub second : Grown (start .second) (h .second) two two'
   pub third : Grown (start .third) (h .third) three three'
   pub rooms : Rooms one' two' three'
-
-grown-none : (n : ℕ) (l : List ℕ) → n ≤ lineRoom → Grown n n l l
-grown-none n l h = record { more = omega arith; fits = h; rest = refl }
 
 pub within-all : {start h : Held} {bytes a b c x y z : List ℕ} {i : ℕ} → Going start bytes a b c x y z h i → Within h
 within-all g = record { first = g .first .fits; second = g .second .fits; third = g .third .fits }

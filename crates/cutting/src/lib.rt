@@ -2,9 +2,9 @@
 ghost use mathlib.Core.Path.{_≡_};
 ghost use mathlib.Core.Bool.{cond};
 ghost use Prim.Native.Nat.{_+_, _≤_, _<_};
-ghost use lib.ListN.{length, take, drop};
+ghost use lib.ListN.{length, take};
 ghost use Rattle.cutting.specs.Lines.{lineRoom, endsLine};
-ghost use Rattle.cutting.specs.Group.{noGroup, longer, groupIn, heldOf, Cuts, Grown, Within, Counts, Rooms, Takes};
+ghost use Rattle.cutting.specs.Group.{noGroup, longer, heldOf, Cuts, Grown, Within, Counts, Rooms, Takes};
 
 // A line's buffer has a byte more than the longest line, which shows that a line is too long.
 pub const LINE_ROOM: usize = lines::LONGEST_LINE + 1;

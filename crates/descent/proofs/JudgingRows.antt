@@ -20,7 +20,7 @@ use Rattle.decide.specs.Class.{enough}
 use Rattle.decide.specs.Table.{holeBySize}
 use Rattle.decide.proofs.Settled.{enough-or}
 use Rattle.decide.specs.Decide.{decideAt}
-use Rattle.walk.specs.Window.{Fits, Shows}
+use Rattle.walk.specs.Window.{Shows}
 use Rattle.walk.specs.declared.state.Window.{Window}
 use Rattle.settle.specs.Ways.{wayIs}
 use Rattle.settle.specs.Rows.{rowOf, Modest}
@@ -91,9 +91,6 @@ module _ (toward : Way) (pair : Pair) (first : List ℕ) (w : Window) (target : 
 
   pub arrived-modest : Modest pair k
   arrived-modest = subst (λ (s : Pair). Modest s k) back (pair-modest x y k (a .reached .ordered) (a .reached .near))
-
-  pub arrived-fits : Fits w target
-  arrived-fits = a .reached .shows .fits
 
   pub arrived-measured : Measured pair w target k
   arrived-measured =

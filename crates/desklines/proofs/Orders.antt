@@ -1,13 +1,12 @@
 -- The desk line by its checks. Assumes nothing.
-use mathlib.Core.Path.{_≡_, refl, sym, ap, _∙_}
-use mathlib.Core.Bool.{Bool, true, false, cond}
-use mathlib.Core.List.{List, [], _∷_, _++_}
+use mathlib.Core.Path.{_≡_}
+use mathlib.Core.Bool.{true, false}
+use mathlib.Core.List.{List}
 use Prim.Native.Nat.{ℕ, _+_, _≤_, _<_}
 use native.Mathlib.Omega.{arith}
 use borrow.Author.Tests.{eq-eqb, ne-eqb, le-leb, lt-leb}
 use lib.Dec.{eqb}
 use lib.ListN.{length}
-use Rattle.checks.specs.declared.Refusal.{Refusal}
 use Rattle.checks.specs.Check.{accepted, firstRefusal}
 use Rattle.lines.specs.Reading.{field, digitsHold}
 use Rattle.desklines.specs.declared.order.Order.{Order}

@@ -10,7 +10,6 @@ use lib.Dec.{eqb}
 use lib.IntN.{ℤ, pos, negsuc}
 use lib.Signed.{ltZ}
 use lib.ListN.{length, take, drop, set, length-append, length-drop}
-use lib.Seq.{take-at}
 use borrow.Rule.Slice.PartMut.{putMid}
 use Rattle.numbers.specs.Limits.{mostPrecision, limbsFor}
 use Rattle.numbers.specs.Operand.{WellFormed}

@@ -2,7 +2,7 @@
 -- Document 01, "The desk program".
 use Prim.Native.Nat.{ℕ, zero, suc, _+_}
 use mathlib.Core.Path.{_≡_}
-use mathlib.Core.Bool.{Bool, cond}
+use mathlib.Core.Bool.{cond}
 use mathlib.Core.List.{List, [], _∷_, _++_}
 use lib.Dec.{ltb, eqb}
 use lib.IntN.{ℤ, pos, negsuc}
@@ -10,7 +10,6 @@ use lib.ListN.{length}
 use Rattle.numbers.specs.Limits.{limbsFor}
 use Rattle.numbers.specs.Operand.{Operand}
 use Rattle.rounding.specs.Mode.{modeOf}
-use Rattle.depth.specs.Depth.{Operation}
 use Rattle.checks.specs.declared.Refusal.{Refusal}
 use Rattle.checks.specs.Number.{operandOf}
 use Rattle.checks.specs.Check.{accepted, pairRefusal}

@@ -5,7 +5,7 @@ ghost use Prim.Native.Nat.{_+_, _≤_, _<_, _^_};
 ghost use mathlib.Core.Bool.{true, false};
 ghost use lib.ListN.{length};
 ghost use Rattle.lines.specs.Reading.{field, digitsHold};
-ghost use Rattle.desklines.specs.Order.{orderSize, orderRefusal, orderOf};
+ghost use Rattle.desklines.specs.Order.{orderSize, orderOf};
 
 // What a desk line asks; its refusal's rule is 0 where it is accepted.
 pub struct Order {

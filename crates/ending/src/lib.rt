@@ -1,6 +1,6 @@
 // Where the walk of a sum ended, what it holds is rounded, or refused.
 ghost use mathlib.Core.Path.{_≡_};
-ghost use mathlib.Core.Bool.{true, false, not};
+ghost use mathlib.Core.Bool.{true, not};
 ghost use Prim.Native.Nat.{ℕ, _+_, _-_, _*_, _^_, _≤_, _<_};
 ghost use lib.Dec.{eqb};
 ghost use lib.ListN.{length, replicate};

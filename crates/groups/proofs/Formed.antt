@@ -1,31 +1,26 @@
 -- An accepted sum is a number of good form. Assumes nothing.
-use mathlib.Core.Path.{_≡_, refl, sym, ap, _∙_, subst}
-use mathlib.Core.Bool.{Bool, true, false, cond}
-use mathlib.Core.List.{List, [], _∷_}
-use Prim.Native.Nat.{ℕ, zero, suc, _+_, _-_, _*_, _/_, _%_, _^_, _≤_, _<_, Ordering}
-use native.Mathlib.Nat.{mul-mod-left, mul-le-mul-right, mul-lt-mul-of-pos-right, le-trans, le-of-eq}
+use mathlib.Core.Path.{_≡_, refl, sym, ap, _∙_}
+use mathlib.Core.Bool.{Bool, true, false}
+use mathlib.Core.List.{List}
+use Prim.Native.Nat.{ℕ, zero, suc, _+_, _-_, _*_, _^_, _≤_, _<_, Ordering}
+use native.Mathlib.Nat.{mul-mod-left, mul-le-mul-right, mul-lt-mul-of-pos-right}
 use native.Mathlib.Omega.{arith}
 use native.Mathlib.Decide.{decLt}
-use lib.IntN.{ℤ, pos}
-use lib.ListN.{length, replicate, length-replicate, getD}
+use lib.ListN.{replicate, length-replicate, getD}
 use lib.Pow.{pow-add, pow-pos}
 use Rattle.limb.specs.Value.{valueOf, Below}
-use Rattle.numbers.specs.Limits.{leastPrecision, mostPrecision, bias, counted, leastExponent, mostExponent, limbsFor}
+use Rattle.numbers.specs.Limits.{leastPrecision, mostPrecision, counted, leastExponent, mostExponent, limbsFor}
 use Rattle.numbers.specs.Limbs.{limbsOf}
-use Rattle.numbers.specs.Operand.{Operand, spareBits, WellFormed, Regular}
-use Rattle.numbers.proofs.Limits.{limbs-hold, limbs-fewest, two-digits}
+use Rattle.numbers.specs.Operand.{Operand, spareBits, WellFormed}
+use Rattle.numbers.proofs.Limits.{limbs-hold, two-digits}
 use Rattle.numbers.proofs.Digits.{limbs-count, limbs-below, limbs-value}
 use Rattle.rounding.specs.Mode.{Mode, way}
 use Rattle.rounding.specs.Answer.{Answer, zeroOf, number, tooLarge, tooSmall, rounded, answer}
 use Rattle.rounding.specs.Sum.{sumAt, add, subtract}
-use Rattle.rounding.specs.Paper.{Written}
 use Rattle.rounding.proofs.Range.{accepted-only, accepted-written}
 use Rattle.rounding.proofs.Ends as ends
 use Rattle.depth.specs.Depth.{Operation, plus, minus, result}
-use Rattle.checks.specs.declared.Number.{Number}
-use Rattle.checks.specs.declared.Refusal.{Refusal}
-use Rattle.checks.specs.Number.{isZeroKind, operandOf, exponentOf}
-use Rattle.checks.specs.Check.{accepted}
+use Rattle.checks.specs.Number.{isZeroKind, operandOf}
 use Rattle.checks.proofs.Signed.{counted-exponent-of}
 use Rattle.place.specs.Placed.{limbsAfter}
 use Rattle.reports.specs.declared.report.Sum.{Sum}

@@ -2,7 +2,7 @@
 use mathlib.Core.Path.{_≡_, refl, sym, ap, _∙_}
 use mathlib.Core.Bool.{Bool, true, false, cond}
 use mathlib.Core.List.{List, [], _∷_, _++_}
-use Prim.Native.Nat.{ℕ, zero, suc, _+_, _-_, _≤_, _<_, min}
+use Prim.Native.Nat.{ℕ, _+_, _-_, _≤_, min}
 use native.Mathlib.Omega.{arith}
 use native.Mathlib.Decide.{ℕ-discrete}
 use borrow.Author.Tests.{eq-eqb, ne-eqb}
@@ -10,21 +10,20 @@ use lib.Dec.{eqb}
 use lib.ListN.{length, take, drop}
 use lib.Seq.{take-at}
 use borrow.Rule.Slice.PartMut.{putMid}
-use Rattle.numbers.specs.Limits.{mostPrecision, limbsFor}
+use Rattle.numbers.specs.Limits.{limbsFor}
 use Rattle.numbers.specs.Operand.{Operand, WellFormed}
 use Rattle.rounding.specs.Mode.{modeOf}
 use Rattle.checks.specs.declared.Number.{Number}
 use Rattle.checks.specs.declared.Refusal.{Refusal}
 use Rattle.checks.specs.Number.{operandOf}
-use Rattle.checks.specs.Check.{Test, test, accepted, firstRefusal, modeHolds, precisionHolds, lengthHolds, exponentHolds, formHolds, pairRefusal}
+use Rattle.checks.specs.Check.{Test, test, accepted, firstRefusal, modeHolds, precisionHolds, pairRefusal}
 use Rattle.checks.proofs.Tables.{accepted-all}
 use Rattle.checks.proofs.Accepted.{precision-range, pair-unrefused}
 use Rattle.depth.specs.Depth.{plus, minus}
 use Rattle.lines.specs.Writing.{onto}
-use Rattle.lines.specs.Reading.{numberIn}
 use Rattle.lines.specs.declared.Head.{Head}
 use Rattle.reports.specs.declared.report.Sum.{Sum}
-use Rattle.reports.specs.Summed.{refusedSum, Reported, Refused, Summed}
+use Rattle.reports.specs.Summed.{refusedSum, Reported, Summed}
 use Rattle.desklines.specs.declared.order.Order.{Order}
 use Rattle.desklines.specs.Order.{orderRefusal, orderOf, operationOf}
 use Rattle.desklines.specs.Answer.{refusalLine, sumLines, longestAnswer, operandOfLine, numberRefusal, earlier, linesRefusal, sumRefusal, groupRefusal}
@@ -33,7 +32,7 @@ use Rattle.desklines.proofs.Tellings.{refusal-fits, refusal-length, limbs-few, 
 use Rattle.groups.proofs.Numbers.{part-length}
 use Rattle.groups.proofs.Formed.{reported-formed}
 
-earlier-first : (r s : Refusal) → (r .rule ≡ 0 → ⊥) → earlier r s ≡ r
+pub earlier-first : (r s : Refusal) → (r .rule ≡ 0 → ⊥) → earlier r s ≡ r
 unfolding earlier
 earlier-first r s n = simp (ne-eqb (r .rule) 0 n)
 
@@ -41,7 +40,7 @@ earlier-second : (r s : Refusal) → r .rule ≡ 0 → earlier r s ≡ s
 unfolding earlier
 earlier-second r s e = simp (eq-eqb (r .rule) 0 e)
 
-ruled : (c : Refusal) → (c .rule ≡ 0 → ⊥) → c ≡ accepted → ⊥
+pub ruled : (c : Refusal) → (c .rule ≡ 0 → ⊥) → c ≡ accepted → ⊥
 unfolding accepted
 ruled c n e = n (ap (λ (r : Refusal). r .rule) e)
 

@@ -1,7 +1,7 @@
 // The hole between two mantissas: is the answer fixed there?
 ghost use mathlib.Core.Path.{_≡_};
 ghost use mathlib.Core.Bool.{Bool, cond};
-ghost use Prim.Native.Nat.{_+_, _-_, _*_, _/_, _^_, _≤_};
+ghost use Prim.Native.Nat.{_+_, _-_, _/_, _^_, _≤_};
 ghost use lib.Dec.{eqb};
 ghost use lib.Ieee.{size};
 ghost use Rattle.limb.specs.Value.{valueOf};

@@ -2,12 +2,13 @@
 use mathlib.Core.Path.{_≡_, refl, sym, ap, _∙_, subst}
 use mathlib.Core.List.{List}
 use Prim.Native.Nat.{ℕ, suc, _+_, _-_, _*_, _/_, _%_, _^_, _≤_, _<_}
-use native.Mathlib.Nat.{add-mul-div-left, add-mul-mod-self-left, mod-eq-of-lt, mod-lt, div-add-mod', mul-assoc, mul-comm, pow-zero, pow-succ', div-mul-le-self, lt-of-le-of-lt, mul-le-mul-left, mul-mod-left, add-zero, add-comm, le-of-lt, lt-of-lt-of-le, mul-suc}
+use native.Mathlib.Nat.{le-trans, le-of-eq, mul-le-mul-right, add-mul-div-left, add-mul-mod-self-left, mod-eq-of-lt, mod-lt, div-add-mod', mul-assoc, mul-comm, pow-zero, pow-succ', div-mul-le-self, lt-of-le-of-lt, mul-le-mul-left, mul-mod-left, add-zero, add-comm, le-of-lt, lt-of-lt-of-le, mul-suc}
 use native.Mathlib.Numerals.{add-one}
 use native.Mathlib.Omega.{arith}
 use lib.Bits.{bitOr, or-shifted, or-shifted-r, or-lt}
+use lib.Count.{leadingZeros, leading-top}
 use lib.ListN.{length, getD, take, drop, set}
-use lib.Pow.{pow-pos, pow-mono, pow-add, mod-pow-add, shl-shr, shr-lt}
+use lib.Pow.{pow-pos, pow-mono, pow-add, mod-pow-add, shl-shr, shl-lt, shr-lt}
 use lib.Seq.{drop-length, take-set-le, drop-set-lt, getD-set-same, getD-set-other}
 use Rattle.limb.specs.Value.{valueIn}
 use Rattle.limb.proofs.Value.{value-nil, value-take, value-drop, value-set}
@@ -52,6 +53,19 @@ limb-lowered limb down lt one =
     let e : down * 2 ^ 63 % 2 ^ 64 ≡ down * 2 ^ 63 = omega arith in
     let f : bitOr (limb / 2) (down * 2 ^ 63) ≡ down * 2 ^ 63 + limb / 2 = or-shifted-r down 63 (limb / 2) (omega arith) in
     rw (e, f) (omega arith)
+
+-- the zeros above its first digit bring it to the top
+pub zeros-top : (x : ℕ) → 0 < x → x < 2 ^ 64 → (leadingZeros 64 x < 64) × (2 ^ 63 ≤ x * 2 ^ leadingZeros 64 x) × (x * 2 ^ leadingZeros 64 x < 2 ^ 64)
+zeros-top x h lt =
+    let top = leading-top 64 x h lt in
+    let z = leadingZeros 64 x in
+    let k = top .0 in
+    let e : k + z ≡ 63 = omega (arith, top .1) in
+    let f : suc k + z ≡ 64 = omega (arith, top .1) in (
+      omega (arith, top .1),
+      le-trans (le-of-eq (ap (λ (n : ℕ). 2 ^ n) (sym e) ∙ pow-add 2 k z)) (mul-le-mul-right (2 ^ z) (top .2)),
+      subst (λ (n : ℕ). x * 2 ^ z < 2 ^ n) f (shl-lt {a = x} (suc k) z (top .3)),
+    )
 
 -- ---- a list of limbs
 

@@ -120,6 +120,15 @@ zero-or : (r : ℕ) → (r ≡ 0) ⊎ (0 < r)
 zero-or zero = inl refl
 zero-or (suc r) = inr (omega arith)
 
+-- digits in a finer unit count only as something
+pub finer-rest : (r h B g : ℕ) (more : Bool) → g < B → locationOf (2 * r + bit (not (eqb g 0) || more)) (h * 4) ≡ locationOf (2 * (r * B + g) + bit more) (h * B * 4)
+unfolding bit fine
+finer-rest r h B g more lt = go (not (eqb g 0) || more) (something g more) (nothing g more)
+  where
+    go : (s : Bool) → (s ≡ true → 0 < g + bit more) → (s ≡ false → g + bit more ≡ 0) → locationOf (2 * r + bit s) (h * 4) ≡ locationOf (2 * (r * B + g) + bit more) (h * B * 4)
+    go true y n = some-below r h B g (bit more) lt (bit-le more) (y refl) (compare r h) (cmp r h)
+    go false y n = none-below r h B g (bit more) lt (bit-le more) (n refl) (compare r h) (cmp r h) (zero-or r)
+
 -- with width digits, more than a limb has
 module _ (top guard width : ℕ) (more : Bool) (over : 64 < width) (lt : guard < 2 ^ 64) where
   abbrev k : ℕ
@@ -141,17 +150,9 @@ module _ (top guard width : ℕ) (more : Bool) (over : 64 < width) (lt : guard <
 
   -- only whether the guard is 0 counts
   pub two-limbs : locationOf (2 * (top % 2 ^ k) + bit (not (eqb guard 0) || more)) (2 ^ (k + 1)) ≡ locationOf (2 * rest-of + bit more) (2 ^ (width + 1))
-  unfolding bit fine
   two-limbs =
       let pos : 0 < k = omega arith in
-      let r = top % 2 ^ k in
-      let h = 2 ^ (k - 1) in
-      rw (four-halves top k pos, rest-is, unit-is) (go (not (eqb guard 0) || more) (something guard more) (nothing guard more) r h)
-    where
-      go : (s : Bool) → (s ≡ true → 0 < guard + bit more) → (s ≡ false → guard + bit more ≡ 0) → (r h : ℕ)
-          → locationOf (2 * r + bit s) (h * 4) ≡ locationOf (2 * (r * 2 ^ 64 + guard) + bit more) (h * 2 ^ 64 * 4)
-      go true y n r h = some-below r h (2 ^ 64) guard (bit more) lt (bit-le more) (y refl) (compare r h) (cmp r h)
-      go false y n r h = none-below r h (2 ^ 64) guard (bit more) lt (bit-le more) (n refl) (compare r h) (cmp r h) (zero-or r)
+      rw (four-halves top k pos, rest-is, unit-is) (finer-rest (top % 2 ^ k) (2 ^ (k - 1)) (2 ^ 64) guard more lt)
 
 -- with no more than a limb has, only the guard's digits count
 pub one-limb : (top guard width : ℕ) → width ≤ 64 → guard % 2 ^ width ≡ (top * 2 ^ 64 + guard) % 2 ^ width

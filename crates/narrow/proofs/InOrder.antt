@@ -3,12 +3,11 @@ use mathlib.Core.Path.{_≡_, refl, sym, ap, _∙_, subst}
 use mathlib.Core.Logic.{inl, inr}
 use mathlib.Core.Bool.{Bool, true, false, cond, _&&_, _||_, Bool·beq, true≢false}
 use mathlib.Core.List.{List, [], _∷_}
-use Prim.Native.Nat.{ℕ, _+_, _-_, _*_, _/_, _^_, _≤_, _<_, min, zero-le}
+use Prim.Native.Nat.{ℕ, _+_, _-_, _*_, _/_, _^_, _≤_, _<_, min}
 use native.Mathlib.Omega.{arith}
 use borrow.Author.Tests.{lt-ltb, le-ltb, le-leb, lt-leb, ne-eqb}
 use lib.Dec.{ltb, leb, eqb}
 use mir.Val.{boolByte}
-use lib.ListN.{length}
 use Rattle.numbers.specs.Limits.{counted, leastPrecision, limbsFor}
 use Rattle.numbers.specs.Operand.{Operand, WellFormed}
 use Rattle.numbers.proofs.Limits.{two-digits}
@@ -26,17 +25,16 @@ use Rattle.checks.specs.Number.{operandOf}
 use Rattle.settle.specs.declared.rows.Pair.{Pair}
 use Rattle.columns.specs.Column.{readTo}
 use Rattle.bridge.specs.Verdict.{pairOf, Ordered}
-use Rattle.bridge.proofs.Read.{read-none}
 use Rattle.bridge.proofs.Told.{top-is}
 use Rattle.bridge.proofs.Exchange.{top-exchange, deciding-exchange}
 use Rattle.descent.specs.Course.{Course}
 use Rattle.ending.specs.Finishing.{Left}
 use Rattle.reports.specs.Signed.{Signed}
-use Rattle.ending.proofs.Handed.{ordered-pair}
+use Rattle.ending.proofs.Handed.{ordered-pair, beq-turned, limbs-some, course-first}
 use Rattle.narrow.specs.declared.seeing.Seen.{Seen}
 use Rattle.narrow.specs.Sighting.{topLimb, Held, Facing, Told}
 use Rattle.narrow.specs.Looked.{Looked}
-use Rattle.narrow.proofs.Tops.{top-read, limbs-some, top-led}
+use Rattle.narrow.proofs.Tops.{top-read, top-led}
 
 -- the test of which is larger is by exponents first
 pub order-told : (a b u v : ℕ) → ((ltb a b || (eqb a b && ltb u v)) ≡ true → a ≤ b) × ((ltb a b || (eqb a b && ltb u v)) ≡ false → b ≤ a)
@@ -99,13 +97,7 @@ module _ (mode p : ℕ) (least : leastPrecision ≤ p) where
         whole m h = omega arith
 
     course : Course x y 0
-    course = record {
-      ordered = d;
-      sum = λ h. refl;
-      level = λ h. read-none 0 (pairOf x y .gap) (y .limbs) (d .second .limb) zero-le ∙ sym (read-none 0 0 (x .limbs) (d .first .limb) zero-le);
-      larger = larger;
-      near = zero-le;
-    }
+    course = course-first x y d larger
 
     told : Told o p x y (s .limb) (s .placed)
     told = says .1 closed x y (record { course = course; regular = e; pair-is = refl; first-top = f; second-top = g }) refl
@@ -145,22 +137,12 @@ module _ (mode p : ℕ) (least : leastPrecision ≤ p) where
       ordered-looked (operandOf x xl) (operandOf y yl) (record { first = gx; second = gy; regular = rx; order = λ f. rw (← ce, ← de) h }) ry u v ue ve s (subst (λ (q : Pair). Says (x .negative) q u v s) pe says) closed
       1 (cond (ltb (c - d) 64) 1 0) refl (rw (ce, de) refl)
 
-beq-turned : (a b : Bool) → Bool·beq a b ≡ Bool·beq b a
-beq-turned true true = refl
-beq-turned true false = refl
-beq-turned false true = refl
-beq-turned false false = refl
-
 -- a flag as a number
 flag-told : (b : Bool) → boolByte b ≡ cond b 1 0
 flag-told true = refl
 flag-told false = refl
 
 -- ---- as the code finds it
-
-pub handed-some : (x : Number) (xl : List ℕ) → WellFormed (operandOf x xl) → 0 < length xl
-unfolding operandOf
-handed-some x xl g = limbs-some (operandOf x xl) g
 
 module _ (mode p : ℕ) (least : leastPrecision ≤ p) (most : p ≤ 62) (x : Number) (xl : List ℕ) (y : Number) (yl : List ℕ)
     (gx : WellFormed (operandOf x xl)) (rx : operandOf x xl .isZero ≡ false) (gy : WellFormed (operandOf y yl)) (ry : operandOf y yl .isZero ≡ false)

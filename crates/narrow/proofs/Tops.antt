@@ -2,25 +2,21 @@
 use mathlib.Core.Path.{_≡_, refl, sym, ap, _∙_}
 use mathlib.Core.Bool.{Bool, true, false}
 use mathlib.Core.List.{List, [], _∷_}
-use Prim.Native.Nat.{ℕ, suc, _+_, _-_, _*_, _/_, _^_, _≤_, _<_}
-use native.Mathlib.Nat.{div-div-eq-div-mul}
-use native.Mathlib.Omega.{arith}
-use lib.ListN.{length, getD, drop, drop-of-length-le}
-use lib.Pow.{pow-add}
-use Rattle.limb.specs.Value.{valueOf, Below}
-use Rattle.limb.proofs.Value.{value-nil, value-drop, value-shr, base-pow}
+use Prim.Native.Nat.{ℕ, _+_, _-_, _/_, _^_, _≤_, _<_}
+use lib.ListN.{length}
+use Rattle.limb.specs.Value.{Below}
 use Rattle.numbers.specs.Operand.{Operand, WellFormed}
-use Rattle.numbers.proofs.Limits.{two-digits, limbs-hold}
 use Rattle.rounding.specs.Mode.{modeOf}
 use Rattle.checks.proofs.Form.{lead-top-bit}
 use Rattle.place.specs.declared.Placed.{Placed}
 use Rattle.place.specs.Placed.{runRule}
 use Rattle.place.specs.Rounded.{roundedPlaced, roundedLimbs}
 use Rattle.columns.specs.Column.{readTo}
-use Rattle.leap.proofs.Leaping.{read-down}
 use Rattle.settle.specs.declared.rows.Pair.{Pair}
 use Rattle.bridge.specs.Verdict.{pairOf, readSum}
 use Rattle.bridge.proofs.Told.{pair-top}
+use Rattle.ending.proofs.Handed.{limbs-some}
+use Rattle.ending.proofs.Handed as Handed
 use Rattle.narrow.specs.declared.column.Column.{Column}
 use Rattle.narrow.specs.Sighting.{topLimb, Held, Facing, Told}
 use Rattle.narrow.specs.Column.{firstRead, Found}
@@ -31,22 +27,7 @@ use Rattle.narrow.proofs.Passed.{passes, run-told}
 
 pub top-read : (gap : ℕ) (l : List ℕ) → Below (2 ^ 64) l → 0 < length l → readTo 1 gap l ≡ topLimb l / 2 ^ gap
 unfolding topLimb
-top-read gap l below some =
-    sym (read-down 1 gap l (omega arith))
-    ∙ ap (λ (m : ℕ). valueOf l / m) (ap (λ (m : ℕ). 2 ^ m) (places (length l) some) ∙ pow-add 2 (64 * (length l - 1)) gap)
-    ∙ sym (div-div-eq-div-mul (valueOf l) (2 ^ (64 * (length l - 1))) (2 ^ gap))
-    ∙ ap (λ (m : ℕ). m / 2 ^ gap) (ap (λ (m : ℕ). valueOf l / m) (sym (base-pow (length l - 1))) ∙ value-shr (2 ^ 64) (length l - 1) l below ∙ last)
-  where
-    places : (n : ℕ) → 0 < n → 64 * n + gap - 64 ≡ 64 * (n - 1) + gap
-    places n h = omega arith
-
-    last : valueOf (drop (length l - 1) l) ≡ getD l (length l - 1) 0
-    last =
-        let none : drop (suc (length l - 1)) l ≡ [] = drop-of-length-le l {i = suc (length l - 1)} (omega arith) in
-        value-drop (2 ^ 64) (length l - 1) l ∙ rw (none, value-nil) (omega arith)
-
-pub limbs-some : (x : Operand) → WellFormed x → 0 < length (x .limbs)
-limbs-some x h = rw (h .count) (omega (arith, two-digits, h .least, limbs-hold (x .precision)))
+top-read gap l below some = Handed.top-read gap l below some
 
 -- a regular number's first digit is 1
 pub top-led : (x : Operand) → WellFormed x → x .isZero ≡ false → 2 ^ 63 ≤ topLimb (x .limbs)
@@ -54,10 +35,8 @@ unfolding topLimb
 top-led x g r = rw (g .count) (lead-top-bit (x .limbs) (g .limb) _ (rw (g .count) at (limbs-some x g)) (g .count) (g .regular r .lead))
 
 pub top-first : (x : Operand) → WellFormed x → readTo 1 0 (x .limbs) ≡ topLimb (x .limbs)
-top-first x g = top-read 0 (x .limbs) (g .limb) (limbs-some x g) ∙ whole (topLimb (x .limbs))
-  where
-    whole : (n : ℕ) → n / 2 ^ 0 ≡ n
-    whole n = omega arith
+unfolding topLimb
+top-first x g = Handed.top-first x g
 
 module _ (x y : Operand) (pair : Pair) (u v : ℕ) (h : Held x y pair u v) where
   first-read : readTo 1 0 (x .limbs) ≡ u

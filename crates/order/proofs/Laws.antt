@@ -1,7 +1,7 @@
 -- The order of two numbers is an order: equal to itself, reversed with its operands, and so under a turn of both signs. Assumes nothing.
 use mathlib.Core.Path.{_≡_, refl, sym, ap, _∙_}
 use mathlib.Core.Bool.{Bool, true, false, not, cond, Bool·beq, true≢false}
-use Prim.Native.Nat.{ℕ, _+_, _-_, _*_, _^_, min, compare, Ordering, Ordering·lt, Ordering·eq, Ordering·gt}
+use Prim.Native.Nat.{ℕ, _+_, min, compare, Ordering, Ordering·lt, Ordering·eq, Ordering·gt}
 use native.Mathlib.Nat.{add-comm}
 use native.Mathlib.Omega.{arith}
 use mathlib.Core.List.{List}
@@ -13,6 +13,7 @@ use Rattle.checks.specs.Number.{operandOf}
 use Rattle.checks.specs.Check.{comparedRefusal}
 use Rattle.rounding.specs.Sum.{scale, amount, share}
 use Rattle.rounding.proofs.Order.{Cmp, cmp, compare-at}
+use Rattle.rounding.proofs.Zeros.{share-zero}
 use Rattle.order.specs.Order.{orderOf, caseOf, numberOf, signOf, comparedOf}
 use Rattle.order.specs.declared.Order.the-variants.{Equal}
 
@@ -57,20 +58,12 @@ pub equal-itself : (x : Operand) → orderOf x x ≡ Ordering·eq
 unfolding orderOf
 equal-itself x = compare-at Ordering·eq _ _ (add-comm (share false (scale x x) x) (share true (scale x x) x))
 
-no-share : (b : Bool) (s : ℕ) (x : Operand) → x .isZero ≡ true → share b s x ≡ 0
-unfolding share amount
-no-share b s x z = go (Bool·beq (x .negative) b)
-  where
-    go : (t : Bool) → cond t (cond (x .isZero) 0 (mantissa x * 2 ^ (lastWeight x - s))) 0 ≡ 0
-    go true = rw z
-    go false = refl
-
 -- "the two zeros are equal"
 pub zeros-equal : (x y : Operand) → x .isZero ≡ true → y .isZero ≡ true → orderOf x y ≡ Ordering·eq
 unfolding orderOf
 zeros-equal x y z w =
     let s = scale x y in
-    compare-at Ordering·eq _ _ (simp (no-share false s x z, no-share true s x z, no-share false s y w, no-share true s y w))
+    compare-at Ordering·eq _ _ (simp (share-zero false s x z, share-zero true s x z, share-zero false s y w, share-zero true s y w))
 
 -- the unit of two numbers that are not both zero
 scale-swapped : (x y : Operand) → (x .isZero ≡ true → y .isZero ≡ true → ⊥) → scale y x ≡ scale x y

@@ -1,6 +1,6 @@
 // Parts of a run of limbs: one limb, the limbs from a place on, clearing, trimming.
 ghost use mathlib.Core.Path.{_≡_};
-ghost use Prim.Native.Nat.{ℕ, _≤_};
+ghost use Prim.Native.Nat.{_≤_};
 ghost use lib.ListN.{length, getD, drop, replicate};
 ghost use Rattle.parts.specs.Trimmed.{trimmed};
 

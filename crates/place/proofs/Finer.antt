@@ -1,64 +1,19 @@
 -- A run written in a finer unit: j digits more below it count only as something, so the answer is the same. Assumes nothing.
 use mathlib.Core.Path.{_≡_, refl, sym, ap, _∙_}
-use mathlib.Core.Bool.{Bool, true, false, not, _||_}
+use mathlib.Core.Bool.{Bool, not, _||_}
 use Prim.Native.Nat.{ℕ, suc, _+_, _-_, _*_, _/_, _%_, _^_, _≤_, _<_}
-use native.Mathlib.Nat.{add-comm, le-trans, le-of-eq, lt-of-lt-of-le, mod-lt, mul-le-mul-right}
-use native.Mathlib.Decide.{decLe}
+use native.Mathlib.Nat.{add-comm, le-trans, le-of-eq, lt-of-lt-of-le, mul-le-mul-right}
 use native.Mathlib.Omega.{arith}
 use lib.Dec.{eqb}
-use lib.Pow.{pow-pos, pow-add, shr-shr, high, low, mod-pow-add}
+use lib.Pow.{pow-add, shr-shr, high, low, mod-pow-add}
 use Rattle.limb.specs.Carry.{bit}
-use Rattle.limb.proofs.Carry.{bit-le}
 use Rattle.rounding.specs.Mode.{Way}
 use Rattle.rounding.specs.Answer.{rounded}
 use Rattle.location.specs.declared.Location.{Location}
 use Rattle.location.specs.Location.{locationOf, goesUp}
 use Rattle.kept.specs.Walk.{isFull}
-use Rattle.location.proofs.Locating.{something, nothing, is-exact, is-lower, is-tie, is-upper, first-apart, four-halves}
+use Rattle.location.proofs.Locating.{finer-rest, four-halves}
 use Rattle.place.proofs.Placing.{rounded-at}
-
--- ---- where the rest lies: its first digit f is one, and the others, l, with y of K below them are all 0 or not
-
-module _ (h f l K y : ℕ) (more tail : Bool) (lt : l < h) (one : f ≤ 1) (few : y < K) (is : more ≡ (not (eqb y 0) || tail)) where
-  abbrev others : ℕ
-  others = l * K + y
-
-  others-lt : others < h * K
-  others-lt = let k = mul-le-mul-right K lt in omega arith
-
-  none : l + bit more ≡ 0 → others + bit tail ≡ 0
-  unfolding bit
-  none = go more is
-    where
-      go : (m : Bool) → m ≡ (not (eqb y 0) || tail) → l + bit m ≡ 0 → l * K + y + bit tail ≡ 0
-      go true e z = absurd (omega arith)
-      go false e z = let n = nothing y tail (sym e) in let o : l ≡ 0 = omega arith in rw o (omega arith)
-
-  some : 0 < l + bit more → 0 < others + bit tail
-  unfolding bit
-  some = go more is
-    where
-      go : (m : Bool) → m ≡ (not (eqb y 0) || tail) → 0 < l + bit m → 0 < l * K + y + bit tail
-      go true e z = let s = something y tail (sym e) in omega arith
-      go false e z = let o : 1 ≤ l = omega arith in let k = mul-le-mul-right K o in omega arith
-
-  finer-rest : locationOf (2 * (f * h + l) + bit more) (h * 4) ≡ locationOf (2 * ((f * h + l) * K + y) + bit tail) (h * K * 4)
-  finer-rest = place ∙ ap (λ (n : ℕ). locationOf (2 * n + bit tail) (h * K * 4)) regroup
-    where
-      regroup : f * (h * K) + others ≡ (f * h + l) * K + y
-      regroup = omega arith
-
-      place : locationOf (2 * (f * h + l) + bit more) (h * 4) ≡ locationOf (2 * (f * (h * K) + others) + bit tail) (h * K * 4)
-      place = elim (decLe f 0) [
-        | yes a ↦ let z : f ≡ 0 = omega arith in elim (decLe (l + bit more) 0) [
-          | yes b ↦ let n : l + bit more ≡ 0 = omega arith in is-exact h f l (bit more) lt (bit-le more) z n ∙ sym (is-exact (h * K) f others (bit tail) others-lt (bit-le tail) z (none n))
-          | no b ↦ let n : 0 < l + bit more = omega arith in is-lower h f l (bit more) lt (bit-le more) z n ∙ sym (is-lower (h * K) f others (bit tail) others-lt (bit-le tail) z (some n))
-        ]
-        | no a ↦ let z : f ≡ 1 = omega arith in elim (decLe (l + bit more) 0) [
-          | yes b ↦ let n : l + bit more ≡ 0 = omega arith in is-tie h f l (bit more) lt (bit-le more) z n ∙ sym (is-tie (h * K) f others (bit tail) others-lt (bit-le tail) z (none n))
-          | no b ↦ let n : 0 < l + bit more = omega arith in is-upper h f l (bit more) lt (bit-le more) z n ∙ sym (is-upper (h * K) f others (bit tail) others-lt (bit-le tail) z (some n))
-        ]
-      ]
 
 -- ---- the answer: N has p digits and `below` more, and F those and j more
 
@@ -85,11 +40,7 @@ module _ (w : Way) (p below N j y : ℕ) (more tail : Bool) (P : 0 < p) (B : 0 <
 
   at-same : at ≡ locationOf (2 * (F % 2 ^ (j + below)) + bit tail) (2 ^ (j + below + 1))
   at-same =
-      rw (rest-is, unit-is, first-apart N below B, four-halves N below B)
-      (finer-rest (2 ^ (below - 1)) (N / 2 ^ (below - 1) % 2) (N % 2 ^ (below - 1)) (2 ^ j) y more tail (mod-lt N (pow-pos (below - 1))) (digit (N / 2 ^ (below - 1))) few is)
-    where
-      digit : (n : ℕ) → n % 2 ≤ 1
-      digit n = omega arith
+      rw (rest-is, unit-is, four-halves N below B, is) (finer-rest (N % 2 ^ below) (2 ^ (below - 1)) (2 ^ j) y tail few)
 
   digits-are : 2 ^ (p + (j + below)) ≡ 2 ^ (p + below) * 2 ^ j
   digits-are = let e : p + (j + below) ≡ p + below + j = omega arith in ap (λ (n : ℕ). 2 ^ n) e ∙ pow-add 2 (p + below) j

@@ -2,13 +2,13 @@
 use mathlib.Core.Path.{_≡_, refl, sym, ap, _∙_, subst}
 use mathlib.Core.Bool.{Bool, true, false, not, _&&_, _||_}
 use mathlib.Core.List.{List, [], _∷_}
-use Prim.Native.Nat.{ℕ, suc, _+_, _-_, _*_, _/_, _%_, _^_, _≤_, _<_}
-use native.Mathlib.Nat.{le-trans, le-of-eq, div-eq-of-lt, mul-le-mul-right, le-of-mul-le-mul-right, lt-of-mul-lt-mul-right}
+use Prim.Native.Nat.{ℕ, _+_, _-_, _*_, _/_, _%_, _^_, _≤_, _<_}
+use native.Mathlib.Nat.{le-trans, le-of-eq, div-eq-of-lt, le-of-mul-le-mul-right, lt-of-mul-lt-mul-right}
 use native.Mathlib.Omega.{arith}
 use lib.Bits.{bitOr, or-zero-r}
-use lib.Count.{leadingZeros, leading-top}
+use lib.Count.{leadingZeros}
 use lib.Dec.{eqb}
-use lib.Pow.{pow-pos, pow-add, shl-lt}
+use lib.Pow.{pow-pos, pow-add}
 use borrow.Author.Tests.{lt-ltb, le-leb, eq-eqb}
 use Rattle.limb.specs.Carry.{bit}
 use Rattle.numbers.specs.Limits.{leastPrecision, mostPrecision, mostExponent, limbsFor}
@@ -22,7 +22,7 @@ use Rattle.place.specs.Rounded.{roundedPlaced, roundedLimbs}
 use Rattle.kept.specs.Walk.{headed, whole, Reaches}
 use Rattle.place.proofs.Answer.{placed-passed, limbs-passed}
 use Rattle.place.proofs.Finer.{finer}
-use Rattle.kept.proofs.Moves.{limb-raised, top-few, limb-lowered}
+use Rattle.kept.proofs.Moves.{limb-raised, top-few, limb-lowered, zeros-top}
 use Rattle.kept.proofs.OneLimb.{one-value, one-reaches}
 use Rattle.kept.proofs.Reaching.{headed-true, headed-false, whole-lt, whole-ge}
 use Rattle.place.proofs.Rules.{Passed, passed, rule-none}
@@ -50,18 +50,8 @@ pub record ToTop (x z : ℕ) : Type 0 where
   pub first : 2 ^ 63 ≤ x * 2 ^ z
   pub fits : x * 2 ^ z < 2 ^ 64
 
-pub zeros-top : (x : ℕ) → 0 < x → x < 2 ^ 64 → ToTop x (leadingZeros 64 x)
-zeros-top x h lt =
-    let top = leading-top 64 x h lt in
-    let z = leadingZeros 64 x in
-    let k = top .0 in
-    let e : k + z ≡ 63 = omega (arith, top .1) in
-    let f : suc k + z ≡ 64 = omega (arith, top .1) in
-    record {
-      few = omega (arith, top .1);
-      first = le-trans (le-of-eq (ap (λ (n : ℕ). 2 ^ n) (sym e) ∙ pow-add 2 k z)) (mul-le-mul-right (2 ^ z) (top .2));
-      fits = subst (λ (n : ℕ). x * 2 ^ z < 2 ^ n) f (shl-lt {a = x} (suc k) z (top .3));
-    }
+pub brought-top : (x : ℕ) → 0 < x → x < 2 ^ 64 → ToTop x (leadingZeros 64 x)
+brought-top x h lt = let t = zeros-top x h lt in record { few = t .0; first = t .1; fits = t .2 }
 
 -- ---- what the moves leave
 

@@ -6,8 +6,6 @@ use Prim.Native.Nat.{ℕ, _+_, _-_}
 use native.Mathlib.Omega.{arith}
 use lib.ListN.{length, drop, length-drop}
 use Rattle.checks.specs.declared.Number.{Number}
-use Rattle.checks.specs.declared.Kind.{Kind}
-use Rattle.checks.specs.declared.Kind.the-variants.{Regular, Zero}
 use Rattle.checks.specs.Number.{isZeroKind}
 use Rattle.doubles.specs.declared.Enclosed.{Enclosed}
 use Rattle.unpack.specs.declared.FromDouble.{FromDouble}

@@ -1,5 +1,5 @@
 -- Plain fields say the number, and the sum, that they were made of. Assumes nothing.
-use mathlib.Core.Path.{_≡_, refl, sym, ap, _∙_}
+use mathlib.Core.Path.{_≡_, refl, sym}
 use mathlib.Core.Bool.{Bool}
 use mathlib.Core.List.{List}
 use Prim.Native.Nat.{ℕ}
@@ -26,7 +26,6 @@ use Rattle.plain.specs.declared.PlainSum.{PlainSum}
 use Rattle.plain.specs.declared.PlainOrder.{PlainOrder}
 use Rattle.plain.specs.declared.PlainDouble.{PlainDouble}
 use Rattle.plain.specs.declared.PlainPair.{PlainPair}
-use Rattle.plain.specs.declared.PlainRead.{PlainRead}
 use Rattle.plain.specs.declared.PlainWritten.{PlainWritten}
 use Rattle.plain.specs.Answers.{orderTold, doubleTold, enclosedFrom, readFrom, headFrom, writtenFrom}
 use Rattle.plain.specs.Plain.{kindFrom, numberFrom, sumFrom}

@@ -1,7 +1,6 @@
 -- What plain fields say: the kernel's own numbers and answers, with each case as a bool or a small number. Definitions only.
 use mathlib.Core.Bool.{Bool, true, false}
 use Rattle.checks.specs.declared.Number.{Number}
-use Rattle.checks.specs.declared.Refusal.{Refusal}
 use Rattle.checks.specs.declared.Kind.{Kind}
 use Rattle.checks.specs.declared.Kind.the-variants.{Regular, Zero}
 use Rattle.reports.specs.declared.report.Sum.{Sum}

@@ -1,7 +1,6 @@
 // Numbers and answers as structs of plain fields, laid out as C lays them out, and their making out of the kernel's own.
 use checks::Kind;
 use checks::Number;
-use checks::Refusal;
 use doubles::Converted;
 use doubles::Enclosed;
 use lines::Head;

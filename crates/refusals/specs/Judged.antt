@@ -1,5 +1,4 @@
 -- The tests of one operand or target at once, and the first place of a rule where one fails. Definitions only.
-use mathlib.Core.Path.{_≡_}
 use Prim.Native.Nat.{ℕ}
 use mathlib.Core.Bool.{Bool, true, cond}
 use mathlib.Core.List.{[], _∷_}

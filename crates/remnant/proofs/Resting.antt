@@ -8,7 +8,6 @@ use native.Mathlib.Omega.{arith}
 use lib.Dec.{ltb, eqb, lit<}
 use lib.Pow.{pow-add, pow-pos, pow-mono, shl-exact, shr-shr, mod-pow-add, high, low}
 use borrow.Author.Tests.{eqb-true, eqb-false, ltb-true, ltb-false, eq-eqb, ne-eqb, lt-ltb, le-ltb}
-use Rattle.limb.specs.Carry.{bit}
 use Rattle.walk.specs.declared.state.Tail.the-variants.{Empty, Zeros, Ones, Mixed}
 use Rattle.remnant.specs.declared.rest.Rest.{Rest}
 use Rattle.remnant.specs.Rest.{Marks, RestAt, LongerRest, TailedRest}

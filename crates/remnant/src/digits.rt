@@ -1,6 +1,6 @@
 // How many digits a window shows.
 ghost use mathlib.Core.Path.{_≡_};
-ghost use Prim.Native.Nat.{ℕ, _*_, _^_, _<_};
+ghost use Prim.Native.Nat.{_*_, _^_, _<_};
 ghost use lib.ListN.{length};
 ghost use Rattle.limb.specs.Carry.{bit};
 ghost use Rattle.walk.specs.Window.{Fits};

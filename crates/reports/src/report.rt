@@ -14,12 +14,13 @@ use checks::Number;
 use checks::Refusal;
 use place::Placed;
 
-// The number, the ternary value, the depth, the limbs used of the first operand and of the second, and the refusal.
+// The depth, the number, the limbs used of the first operand and of the second, the ternary value, and the refusal. No two of the three
+// counts stand side by side: two of them, written one by one and then read as one, would have the reader wait.
 pub struct Sum {
-    pub number: Number,
-    pub ternary: i8,
     pub depth: u64,
+    pub number: Number,
     pub first: u64,
+    pub ternary: i8,
     pub second: u64,
     pub refusal: Refusal,
 }

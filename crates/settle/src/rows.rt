@@ -1,6 +1,6 @@
 // What is known of a sum after so many columns.
 ghost use mathlib.Core.Path.{_≡_};
-ghost use Prim.Native.Nat.{_+_, _*_, _^_, _≤_};
+ghost use Prim.Native.Nat.{_+_, _^_, _≤_};
 ghost use Rattle.rounding.specs.Mode.{modeOf, way};
 ghost use Rattle.settle.specs.Ways.{wayIs};
 ghost use Rattle.settle.specs.Rows.{seenRow, farRow, rowOf, Modest};

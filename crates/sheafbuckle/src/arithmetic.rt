@@ -1,5 +1,6 @@
 // Add, subtract, re-round.
 use checks::Number;
+use checks::Refusal;
 use plain::PlainNumber;
 use plain::PlainSum;
 use plain::number_from;
@@ -25,6 +26,25 @@ fn turned_if(turn: bool, x: Number) -> Number
     }
 }
 
+// The same sum, field by field: what the kernel's sum has on its way need not be copied whole.
+fn copied_sum(s: Sum) -> Sum
+    ensures { λ r. ⌜ r ≡ s ⌝ }
+{
+    let number = checks::copied(s.number);
+    let refusal = s.refusal;
+    Sum {
+        depth: s.depth,
+        number: number,
+        first: s.first,
+        ternary: s.ternary,
+        second: s.second,
+        refusal: Refusal {
+            rule: refusal.rule,
+            place: refusal.place,
+        },
+    }
+}
+
 // x + y, or x - y where so said, rounded to p digits.
 fn sum_turned(
     turn: bool,
@@ -39,7 +59,7 @@ fn sum_turned(
     ensures { λ r. ⌜ (turn ≡ false → Summed plus mode (numberFrom x) (now (xl .entry)) (numberFrom y) (now (yl .entry)) p (now (target .entry)) (now (target .exit)) r) × (turn ≡ true → Summed minus mode (numberFrom x) (now (xl .entry)) (numberFrom y) (now (yl .entry)) p (now (target .entry)) (now (target .exit)) r) ⌝ }
 {
     let second = turned_if(turn, number_from(y));
-    sums::add(mode, number_from(x), xl, second, yl, p, target)
+    copied_sum(sums::add(mode, number_from(x), xl, second, yl, p, target))
 }
 
 // x + y, rounded to p digits.

@@ -1,5 +1,4 @@
 // Compare, turn the sign.
-use order::Order;
 use plain::PlainNumber;
 use plain::PlainOrder;
 use plain::number_from;

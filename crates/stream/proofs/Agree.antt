@@ -16,7 +16,7 @@ use Rattle.desklines.specs.Written.{Answers}
 use Rattle.cutting.specs.declared.Held.{Held}
 use Rattle.stream.specs.declared.serving.Served.{Served}
 use Rattle.cutting.specs.Group.{Group, after, taken}
-use Rattle.stream.specs.Desk.{Printed, nothing, noSecond, noThird, group, Desk}
+use Rattle.stream.specs.Desk.{Printed, nothing, noSecond, noThird, group}
 use Rattle.stream.specs.Serving.{State, groupOf, Serves, ended, full, waits, answers, Ends, isReady, ServedBy, Finished}
 use Rattle.cutting.proofs.Resuming.{resume}
 use Rattle.stream.proofs.Printing.{ended-printed}

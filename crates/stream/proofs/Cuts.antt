@@ -1,18 +1,18 @@
 -- A line over the longest is refused, so that one byte over it serves for all of it. Assumes nothing.
 use mathlib.Core.Path.{_≡_, refl, sym, ap, _∙_}
-use mathlib.Core.Bool.{Bool, true, false, cond}
-use mathlib.Core.List.{List, [], _∷_}
-use Prim.Native.Nat.{ℕ, suc, _+_, _≤_, _<_}
+use mathlib.Core.List.{List}
+use Prim.Native.Nat.{ℕ, _≤_, _<_}
 use native.Mathlib.Omega.{arith}
 use native.Mathlib.Decide.{decLe, ℕ-discrete}
 use borrow.Author.Tests.{lt-ltb, ne-eqb, eq-eqb}
-use lib.ListN.{length, take}
+use lib.ListN.{length}
 use lib.Seq.{take-all, length-take-le}
 use Rattle.checks.specs.declared.Refusal.{Refusal}
-use Rattle.checks.specs.Check.{accepted, firstRefusal}
+use Rattle.checks.specs.Check.{firstRefusal}
 use Rattle.lines.specs.Line.{longestLine, shortestLine}
 use Rattle.desklines.specs.Order.{orderSize, orderRefusal}
 use Rattle.desklines.specs.Answer.{refusalLine, numberRefusal, earlier, linesRefusal, groupRefusal, Answered}
+use Rattle.groups.proofs.Groups.{earlier-first, ruled}
 use Rattle.cutting.specs.Lines.{lineRoom, cutLine}
 
 short-cut : (l : List ℕ) → length l ≤ lineRoom → cutLine l ≡ l
@@ -80,14 +80,6 @@ earlier-zero r s z = go (ℕ-discrete (r .rule) 0)
     go : Dec (r .rule ≡ 0) → (r .rule ≡ 0) × (s .rule ≡ 0)
     go (yes e) = (e, rw (eq-eqb (r .rule) 0 e) at z)
     go (no n) = absurd (n (rw (ne-eqb (r .rule) 0 n) at z))
-
-earlier-first : (r s : Refusal) → (r .rule ≡ 0 → ⊥) → earlier r s ≡ r
-unfolding earlier
-earlier-first r s n = simp (ne-eqb (r .rule) 0 n)
-
-ruled : (c : Refusal) → (c .rule ≡ 0 → ⊥) → c ≡ accepted → ⊥
-unfolding accepted
-ruled c n e = n (ap (λ (r : Refusal). r .rule) e)
 
 module _ (a b c : List ℕ) where
   cut-lines : linesRefusal (cutLine a) (cutLine b) (cutLine c) ≡ linesRefusal a b c

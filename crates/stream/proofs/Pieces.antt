@@ -1,14 +1,14 @@
 -- A piece of the input, group by group: what was printed so far, and what is still to be taken. Assumes nothing.
-use mathlib.Core.Path.{_≡_, refl, sym, ap, _∙_, subst}
-use mathlib.Core.Bool.{Bool, true, false, cond, _&&_}
+use mathlib.Core.Path.{_≡_, refl, sym, ap, _∙_}
+use mathlib.Core.Bool.{Bool, true, false, cond}
 use mathlib.Core.List.{List, [], _∷_, _++_, append-nil, append-assoc}
-use Prim.Native.Nat.{ℕ, zero, suc, _+_, _-_, _≤_, _<_, min}
+use Prim.Native.Nat.{ℕ, suc, _+_, _-_, _≤_, _<_, min}
 use native.Mathlib.Omega.{arith}
 use borrow.Author.Tests.{ltb-true, eqb-true, leb-true, le-ltb, lt-ltb, ne-eqb, eq-eqb, le-leb, lt-leb}
-use borrow.Rule.Slice.PartMut.{putMid, post-is, same-len-mid}
+use borrow.Rule.Slice.PartMut.{putMid, post-is}
 use lib.Dec.{ltb, leb, eqb}
 use lib.ListN.{length, take, drop, length-append, length-take, length-drop, drop-of-length-le}
-use lib.Seq.{take-at, take-append-add, drop-at, drop-length, drop-drop, length-take-le, take-all}
+use lib.Seq.{take-at, take-append-add, drop-at, drop-length, drop-drop, length-take-le}
 use Rattle.checks.proofs.Tables.{both}
 use Rattle.parts.proofs.Parts.{part-is}
 use Rattle.lines.specs.Writing.{onto}

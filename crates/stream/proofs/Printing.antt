@@ -1,16 +1,13 @@
 -- Whatever way the input is split into pieces, what is printed in all is what the definition says of the whole input. Assumes nothing.
-use mathlib.Core.Path.{_≡_, refl, sym, ap, _∙_, subst}
-use mathlib.Core.Bool.{Bool, true, false, cond}
+use mathlib.Core.Path.{_≡_, refl, subst}
 use mathlib.Core.List.{List, [], _∷_, _++_, map, append-nil, append-assoc}
-use Prim.Native.Nat.{ℕ, zero, suc, _+_, _-_, _≤_, _<_}
-use native.Mathlib.Omega.{arith}
+use Prim.Native.Nat.{ℕ, _+_}
 use lib.ListN.{length, take, drop}
 use lib.Seq.{take-add, take-at}
 use Rattle.lines.specs.Writing.{onto}
-use Rattle.desklines.specs.Answer.{Answered}
 use Rattle.cutting.specs.Lines.{linesOf, cutLine}
-use Rattle.cutting.specs.Group.{Group, noGroup, isWhole, after, taken, groupIn, heldOf}
-use Rattle.stream.specs.Desk.{Printed, nothing, noSecond, noThird, group, Desk, cutShort}
+use Rattle.cutting.specs.Group.{Group, noGroup, after, taken, groupIn, heldOf}
+use Rattle.stream.specs.Desk.{Printed, nothing, noSecond, noThird, group, Desk}
 use Rattle.stream.specs.Serving.{State, groupOf, keeping, fresh, Serves, ended, full, waits, answers, Ends, oneLine, onlyOne, twoLines, onlyTwo, threeLines, Runs, ends, serves}
 use Rattle.stream.specs.Serving as serving
 use Rattle.stream.proofs.Cuts.{answered-cut}

@@ -2,7 +2,6 @@
 -- Document 01, "The desk program".
 use mathlib.Core.List.{List, [], _∷_, _++_}
 use Prim.Native.Nat.{ℕ}
-use Rattle.checks.specs.declared.Refusal.{Refusal}
 use Rattle.desklines.specs.Answer.{refusalLine, Answered}
 use Rattle.cutting.specs.Lines.{linesOf}
 

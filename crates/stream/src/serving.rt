@@ -9,12 +9,11 @@ ghost use mathlib.Core.Path.{_≡_};
 ghost use mathlib.Core.Bool.{true};
 ghost use Prim.Native.Nat.{_≤_};
 ghost use lib.ListN.{length, take};
-ghost use Rattle.lines.specs.Writing.{onto};
 ghost use Rattle.desklines.specs.Written.{Answers, Tells};
 ghost use Rattle.desklines.specs.Answer.{longestAnswer};
 ghost use Rattle.cutting.specs.Group.{Rooms, Within};
 ghost use Rattle.stream.specs.Desk.{cutShort};
-ghost use Rattle.stream.specs.Serving.{State, isReady, ServedBy, Finished};
+ghost use Rattle.stream.specs.Serving.{isReady, ServedBy, Finished};
 
 // What is held after a piece, how many of its bytes were taken, and how many bytes were printed.
 pub struct Served {

@@ -1,5 +1,5 @@
 // A number changed by one, from a limb up.
-ghost use Prim.Native.Nat.{ℕ, _^_, _≤_, _<_};
+ghost use Prim.Native.Nat.{_^_, _≤_, _<_};
 ghost use lib.ListN.{length};
 ghost use Rattle.walk.specs.Change.{Risen, Fallen, ChangedAt, PassesLimb};
 

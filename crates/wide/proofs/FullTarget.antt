@@ -2,21 +2,19 @@
 use mathlib.Core.Path.{_≡_, refl, sym, ap, _∙_, subst}
 use mathlib.Core.Bool.{Bool, true, false, _||_, true≢false}
 use mathlib.Core.List.{List}
-use Prim.Native.Nat.{ℕ, _+_, _-_, _*_, _/_, _^_, _≤_, _<_}
+use Prim.Native.Nat.{ℕ, _+_, _-_, _*_, _^_, _≤_, _<_}
 use native.Mathlib.Omega.{arith}
 use borrow.Author.Tests.{ltb-true}
 use lib.Count.{leadingZeros}
 use lib.Dec.{ltb}
 use lib.ListN.{length, getD}
-use lib.Pow.{pow-add}
 use Rattle.limb.specs.Value.{valueOf, Below}
 use Rattle.limb.specs.Carry.{bit}
-use Rattle.numbers.specs.Limits.{leastPrecision, mostPrecision, limbsFor}
+use Rattle.numbers.specs.Limits.{mostPrecision, limbsFor}
 use Rattle.numbers.specs.Operand.{Operand}
 use Rattle.numbers.proofs.Digits.{precision-two}
 use Rattle.rounding.specs.Mode.{Mode, nearest, Way, near, under, over, way}
 use Rattle.rounding.specs.Answer.{rounded}
-use Rattle.depth.specs.Bound.{deepest}
 use Rattle.decide.proofs.Settled.{enough-true}
 use Rattle.place.specs.Placed.{runNumber}
 use Rattle.remnant.specs.Digits.{ShowsDigits}
@@ -31,17 +29,17 @@ use Rattle.settle.specs.declared.rows.Row.{Row}
 use Rattle.settle.specs.declared.rows.Row.the-variants.{Exact, Plus, Minus, Hole}
 use Rattle.settle.specs.declared.rows.Way as code
 use Rattle.settle.specs.declared.rows.Way.the-variants.{Near, Under, Over}
-use Rattle.bridge.specs.Verdict.{pairOf, readSum, inner?, moreOf}
+use Rattle.bridge.specs.Verdict.{readSum, inner?, moreOf}
 use Rattle.bridge.proofs.Told.{pair-second}
 use Rattle.bridge.proofs.Refine.{scaled-up}
 use Rattle.bridge.proofs.Answers.{sum-pos}
 use Rattle.bridge.proofs.Covered.{columns-above}
 use Rattle.descent.specs.declared.going.Verdict.the-variants.{Fixed}
 use Rattle.descent.specs.Ready.{Room}
-use Rattle.descent.specs.Course.{Course, Judged, Held, Begun, Reached, Prompt, Sighted, Full, Inside, open?}
+use Rattle.descent.specs.Course.{Course, Judged, Held, Begun, Reached, Sighted, Full, Inside, open?}
 use Rattle.descent.proofs.JudgingRange.{digits-some}
 use Rattle.descent.proofs.JudgingRows.{pair-modest}
-use Rattle.descent.proofs.GoingDown.{room-some, room-kept}
+use Rattle.descent.proofs.GoingDown.{room-some}
 use Rattle.descent.proofs.AtOnce.{sighted, head-is, carry-leads, limb-leads}
 use Rattle.descent.proofs.AtGlance.{glance-exact, glance-plus, glance-minus, first-reached, first-open, first-full}
 use Rattle.ending.proofs.RegularEnd.{deep-enough}

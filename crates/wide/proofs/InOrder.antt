@@ -3,16 +3,13 @@ use mathlib.Core.Path.{_≡_, refl, sym, ap, _∙_, subst}
 use mathlib.Core.Logic.{inl, inr}
 use mathlib.Core.Bool.{Bool, true, false, not, cond, _&&_, _||_, Bool·beq, true≢false}
 use mathlib.Core.List.{List}
-use Prim.Native.Nat.{ℕ, _+_, _-_, _*_, _^_, _≤_, _<_, zero-le}
-use native.Mathlib.Nat.{mod-eq-of-lt}
+use Prim.Native.Nat.{ℕ, _+_, _-_, _*_, _^_, _≤_, _<_}
 use native.Mathlib.Omega.{arith}
 use borrow.Author.Tests.{lt-ltb, le-ltb, le-leb, eq-eqb, eqb-true, ltb-true}
 use lib.Dec.{ltb, eqb}
 use lib.ListN.{length, getD}
-use Rattle.limb.specs.Value.{Below}
 use Rattle.numbers.specs.Limits.{counted, leastPrecision, mostPrecision, mostExponent, limbsFor}
 use Rattle.numbers.specs.Operand.{Operand, WellFormed}
-use Rattle.numbers.proofs.Limits.{two-digits, limbs-hold}
 use Rattle.rounding.specs.Mode.{Mode, modeOf}
 use Rattle.rounding.specs.Answer.{Answer, rounded}
 use Rattle.rounding.specs.Sum.{add}
@@ -27,11 +24,10 @@ use Rattle.place.specs.Placed.{runNumber, runAnswer, runRule, placedOf, limbsAf
 use Rattle.place.specs.Rounded.{roundedPlaced, roundedLimbs}
 use Rattle.place.proofs.Answer.{placed-passed, limbs-passed}
 use Rattle.place.proofs.Rules.{rule-none}
-use Rattle.columns.specs.Column.{readTo, columnOf, limbBelow}
-use Rattle.columns.proofs.Reading.{column-whole}
+use Rattle.decide.proofs.Settled.{and-true}
+use Rattle.columns.specs.Column.{readTo}
 use Rattle.settle.specs.declared.rows.Pair.{Pair}
 use Rattle.bridge.specs.Verdict.{pairOf, Ordered}
-use Rattle.bridge.proofs.Read.{read-below, read-none}
 use Rattle.bridge.proofs.Told.{pair-gap, pair-same, pair-top, top-is}
 use Rattle.bridge.proofs.Decision.{leads}
 use Rattle.bridge.proofs.Covered.{columns-above}
@@ -42,7 +38,7 @@ use Rattle.ending.specs.Finishing.{Left}
 use Rattle.reports.specs.Signed.{Signed}
 use Rattle.ending.proofs.Finishing.{room-pos}
 use Rattle.ending.proofs.RegularEnd.{deep-enough, not-deep, rounded-signed}
-use Rattle.ending.proofs.Handed.{ordered-pair}
+use Rattle.ending.proofs.Handed.{ordered-pair, beq-turned, top-first, course-first}
 use Rattle.wide.specs.declared.fill.Filled.{Filled}
 use Rattle.wide.specs.Filling.{Holding, Offered, Rounds, Fills}
 use Rattle.reports.specs.Counts.{usedOf}
@@ -59,18 +55,6 @@ counted-in-order false k gap c d i j xl yl e f g h = (g ∙ ap (λ (m : ℕ). us
 
 -- ---- which of two operands comes first
 
-some-limb : (x : Operand) → WellFormed x → 0 < length (x .limbs)
-some-limb x g = rw (g .count) (omega (arith, two-digits, g .least, limbs-hold (x .precision)))
-
-pub limbs-some : (x : Number) (xl : List ℕ) → WellFormed (operandOf x xl) → 0 < length xl
-unfolding operandOf
-limbs-some x xl g = some-limb (operandOf x xl) g
-
--- the first column of an operand that begins in it is its top limb
-read-top : (l : List ℕ) → Below (2 ^ 64) l → 0 < length l → readTo 1 0 l ≡ getD l (length l - 1) 0
-unfolding columnOf limbBelow
-read-top l h some = sym (mod-eq-of-lt (read-below 1 0 l h)) ∙ sym (column-whole l 0 0 h (omega arith) refl) ∙ rw (lt-ltb 0 (length l) some) refl
-
 module _ (x y : Operand) (g : WellFormed x) (h : WellFormed y) (r : x .isZero ≡ false) (e : y .isZero ≡ false) (order : y .exponent ≤ x .exponent)
     (tops : y .exponent ≡ x .exponent → Bool·beq (x .negative) (y .negative) ≡ false → getD (y .limbs) (length (y .limbs) - 1) 0 < getD (x .limbs) (length (x .limbs) - 1) 0) where
   ordered : Ordered x y
@@ -82,23 +66,13 @@ module _ (x y : Operand) (g : WellFormed x) (h : WellFormed y) (r : x .isZero �
   level : y .exponent ≡ x .exponent → pairOf x y .same ≡ false → readTo 1 (pairOf x y .gap) (y .limbs) < readTo 1 0 (x .limbs)
   level q f =
       let z : pairOf x y .gap ≡ 0 = pair-gap x y e ∙ none (x .exponent) (y .exponent) q in
-      rw (z, read-top (y .limbs) (h .limb) (some-limb y h), read-top (x .limbs) (g .limb) (some-limb x g)) (tops q (unlike f))
+      rw (z, top-first y h, top-first x g) (tops q (unlike f))
     where
       none : (m n : ℕ) → n ≡ m → m - n ≡ 0
       none m n i = omega arith
 
-  course-first : Course x y 0
-  course-first = record {
-    ordered = ordered;
-    sum = λ f. refl;
-    level = λ f. read-none 0 (pairOf x y .gap) (y .limbs) (h .limb) zero-le ∙ sym (read-none 0 0 (x .limbs) (g .limb) zero-le);
-    larger = λ f. elim (le-or-lt (x .exponent) (y .exponent)) [ inl l ↦ level (omega arith) f | inr l ↦ leads x y 1 ordered (omega arith) l f ];
-    near = zero-le;
-  }
-
-both-true : (a b : Bool) → (a && b) ≡ true → (a ≡ true) × (b ≡ true)
-both-true true b e = (refl, e)
-both-true false b e = absurd (true≢false (sym e))
+  course-told : Course x y 0
+  course-told = course-first x y ordered (λ f. elim (le-or-lt (x .exponent) (y .exponent)) [ inl l ↦ level (omega arith) f | inr l ↦ leads x y 1 ordered (omega arith) l f ])
 
 -- the tests that the code makes
 module _ (a b u v : ℕ) where
@@ -120,18 +94,12 @@ module _ (a b u v : ℕ) where
       level : b ≤ a → (a ≤ b) × (a ≡ b → u < v)
       level h =
           let f : (eqb a b && ltb u v) ≡ true = rw (le-ltb a b h) at e in
-          let t = both-true (eqb a b) (ltb u v) f in
+          let t = and-true (eqb a b) (ltb u v) f in
           let i = eqb-true a b (t .0) in
           (omega arith, λ j. ltb-true u v (t .1))
 
   not-level : (same : Bool) → (not same && (eqb a b && eqb u v)) ≡ false → same ≡ false → a ≡ b → u ≡ v → ⊥
   not-level same e s i j = let z : (not same && (eqb a b && eqb u v)) ≡ true = rw (s, eq-eqb a b i, eq-eqb u v j) refl in true≢false (sym z ∙ e)
-
-beq-turned : (a b : Bool) → Bool·beq a b ≡ Bool·beq b a
-beq-turned true true = refl
-beq-turned true false = refl
-beq-turned false true = refl
-beq-turned false false = refl
 
 module _ (x : Number) (xl : List ℕ) (y : Number) (yl : List ℕ) (gx : WellFormed (operandOf x xl)) (rx : operandOf x xl .isZero ≡ false) (gy : WellFormed (operandOf y yl)) (ry : operandOf y yl .isZero ≡ false)
     (a b u v : ℕ) (ae : a ≡ counted (x .exponent)) (be : b ≡ counted (y .exponent)) (ue : u ≡ getD xl (length xl - 1) 0) (ve : v ≡ getD yl (length yl - 1) 0)
@@ -146,14 +114,14 @@ module _ (x : Number) (xl : List ℕ) (y : Number) (yl : List ℕ) (gx : WellFor
   unfolding operandOf
   straight f =
       let t = in-place a b u v (sym order ∙ f) in
-      course-first X Y gx gy rx ry (rw (← ae, ← be) (t .0)) (λ q n. rw (← ue, ← ve) (strict (t .1 (be ∙ q ∙ sym ae)) (not-level a b u v (Bool·beq (x .negative) (y .negative)) (sym even-is ∙ apart) n (ae ∙ sym q ∙ sym be))))
+      course-told X Y gx gy rx ry (rw (← ae, ← be) (t .0)) (λ q n. rw (← ue, ← ve) (strict (t .1 (be ∙ q ∙ sym ae)) (not-level a b u v (Bool·beq (x .negative) (y .negative)) (sym even-is ∙ apart) n (ae ∙ sym q ∙ sym be))))
     where
       strict : v ≤ u → (u ≡ v → ⊥) → v < u
       strict h n = elim (le-or-lt u v) [ inl k ↦ absurd (n (omega arith)) | inr k ↦ k ]
 
   turned : swapped ≡ true → Course Y X 0
   unfolding operandOf
-  turned f = let t = out-of-place a b u v (sym order ∙ f) in course-first Y X gy gx ry rx (rw (← ae, ← be) (t .0)) (λ q n. rw (← ue, ← ve) (t .1 (ae ∙ q ∙ sym be)))
+  turned f = let t = out-of-place a b u v (sym order ∙ f) in course-told Y X gy gx ry rx (rw (← ae, ← be) (t .0)) (λ q n. rw (← ue, ← ve) (t .1 (ae ∙ q ∙ sym be)))
 
   module _ (t l m n : ℕ) (te : t ≡ cond swapped b a) (le : l ≡ cond swapped a b) (me : m ≡ cond swapped (y .precision) (x .precision)) (ne : n ≡ cond swapped (x .precision) (y .precision)) where
     pub gap-some : l ≤ t

@@ -1,6 +1,6 @@
 // The columns that fill the target fix the answer: all is read, or the rest lies inside a half.
 ghost use mathlib.Core.Path.{_≡_};
-ghost use mathlib.Core.Bool.{true, false, _||_};
+ghost use mathlib.Core.Bool.{true, _||_};
 ghost use mathlib.Core.List.{List};
 ghost use Prim.Native.Nat.{ℕ, _-_, _^_, _<_};
 ghost use lib.Dec.{ltb};

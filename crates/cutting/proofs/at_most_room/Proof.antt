@@ -1,12 +1,10 @@
 -- `stream::at_most_room`: a buffer has no byte past its room. Assumes nothing.
-use mathlib.Core.Path.{_≡_, refl, sym, _∙_}
-use mathlib.Core.List.{List}
-use Prim.Native.Nat.{ℕ, _≤_}
+use mathlib.Core.Path.{refl, sym, _∙_}
+use Prim.Native.Nat.{_≤_}
 use native.Mathlib.Omega.{arith}
 use borrow.Author.Needs.{needs}
-use lib.ListN.{length, take}
+use lib.ListN.{length}
 use lib.Seq.{take-all}
-use Rattle.cutting.specs.Lines.{lineRoom}
 use Rattle.cutting.proofs.at_most_room.Statement.{statement}
 use Rattle.cutting.proofs.at_most_room.Tie as tie
 

@@ -7,10 +7,6 @@ use borrow.Author.Needs.{needs}
 use Rattle.cutting.proofs.Underway.{Going, begins, goes, same-group, stops-whole, stops-empty, within-all}
 use Rattle.cutting.proofs.cut.Statement.{statement}
 use Rattle.cutting.proofs.cut.Tie as tie
-use Rattle.cutting.proofs.cut.Reads as reads
-use Rattle.cutting.proofs.cut.Lts as lts
-use Rattle.cutting.proofs.take_byte.Reads as take-byte-reads
-use Rattle.cutting.proofs.within.Reads as within-reads
 
 abbrev Inv-loop : tie.InvT-loop
 Inv-loop bytes first₀ second₀ third₀ h₀ i₀ first second third h i = Going h₀ bytes first₀ second₀ third₀ first second third h i

@@ -1,11 +1,6 @@
 -- `stream::keep`: the byte goes behind those that are held, or the buffer is full. Assumes nothing.
-use Prim.Native.Nat.{_≤_, _<_}
-use mathlib.Core.Path.{_≡_}
 use borrow.Author.Needs.{needs}
-use native.Mathlib.Omega.{arith}
-use lib.ListN.{length, length-set}
-use Rattle.cutting.specs.Lines.{lineRoom}
-use Rattle.cutting.proofs.Keeping.{kept, grown, full, stays}
+use Rattle.cutting.proofs.Keeping.{kept, grown, full, grown-none}
 use Rattle.cutting.proofs.keep.Statement.{statement}
 use Rattle.cutting.proofs.keep.Tie as tie
 
@@ -29,7 +24,7 @@ returns-2 : tie.Need-returns-2
 returns-2 c =
     let g = c .before .args in (
       full (g .line .now) (g .held) (g .b) (c .before .pre .1) (c .if1 .left),
-      stays (g .line .now) (g .held) (g .b) (c .before .pre .1) (c .before .pre .0),
+      grown-none (g .held) (g .line .now) (c .before .pre .0),
     )
 
 pub keep-spec : {M : Type 1} → statement M

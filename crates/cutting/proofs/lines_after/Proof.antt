@@ -1,5 +1,4 @@
 -- `stream::lines_after`: one line more after an LF. Assumes nothing.
-use mathlib.Core.Path.{refl}
 use borrow.Author.Needs.{needs}
 use borrow.Author.Tests.{eq-eqb, ne-eqb}
 use Rattle.lines.specs.Line.{lineFeed}

@@ -3,10 +3,6 @@ use borrow.Author.Needs.{needs}
 use Rattle.cutting.proofs.Taking.{takes-first, takes-second, takes-third, remaining}
 use Rattle.cutting.proofs.take_byte.Statement.{statement}
 use Rattle.cutting.proofs.take_byte.Tie as tie
-use Rattle.cutting.proofs.take_byte.Reads as reads
-use Rattle.cutting.proofs.take_byte.Lts as lts
-use Rattle.cutting.proofs.keep.Reads as keep-reads
-use Rattle.cutting.proofs.lines_after.Reads as lines-after-reads
 
 lines-after-requires : tie.Need-lines-after-requires
 lines-after-requires c κs = search needs

@@ -4,12 +4,6 @@ use lib.ListN.{length}
 use borrow.Author.Needs.{needs}
 use Rattle.desk.proofs.run.Statement.{statement}
 use Rattle.desk.proofs.run.Tie as tie
-use Rattle.desk.proofs.run.Reads as reads
-use Rattle.desk.proofs.run.Lts as lts
-use Rattle.desk.proofs.finish.Reads as finish-reads
-use Rattle.desk.proofs.serve_piece.Reads as serve-piece-reads
-use Rattle.io.proofs.read_full.Reads as read-full-reads
-use Rattle.cutting.proofs.start.Reads as start-reads
 
 abbrev Inv-loop : tie.InvT-loop
 Inv-loop piece₀ first₀ second₀ third₀ out₀ held₀ turns₀ piece first second third out held turns =

@@ -6,10 +6,6 @@ use native.Mathlib.Omega.{arith}
 use borrow.Author.Needs.{needs}
 use Rattle.desk.proofs.serve_piece.Statement.{statement}
 use Rattle.desk.proofs.serve_piece.Tie as tie
-use Rattle.desk.proofs.serve_piece.Reads as reads
-use Rattle.desk.proofs.serve_piece.Lts as lts
-use Rattle.io.proofs.write_all.Reads as write-all-reads
-use Rattle.stream.proofs.serve.Reads as serve-reads
 
 abbrev Inv-loop : tie.InvT-loop
 Inv-loop piece first₀ second₀ third₀ out₀ h₀ at₀ first second third out h at =

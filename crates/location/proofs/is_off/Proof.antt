@@ -1,6 +1,5 @@
 -- `location::is_off`: by location, as the definition. Assumes nothing.
 use borrow.Author.Needs.{needs}
-use Rattle.rounding.specs.Mode.{over}
 use Rattle.location.specs.Location.{goesUp}
 use Rattle.location.proofs.is_off.Statement.{statement}
 use Rattle.location.proofs.is_off.Tie as tie

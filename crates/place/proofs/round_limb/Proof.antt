@@ -1,6 +1,6 @@
 -- `place::round_limb` is right as `round_fit` is: the run reaches 64 digits below its limb, and the steps by value leave what those on a
 -- target of one limb leave. Assumes nothing.
-use mathlib.Core.Path.{_≡_, refl, sym, ap, _∙_}
+use mathlib.Core.Path.{refl, sym, ap, _∙_}
 use mathlib.Core.Bool.{false}
 use mathlib.Core.List.{[], _∷_}
 use Prim.Native.Nat.{ℕ, _-_, _*_, _/_, _%_, _^_}

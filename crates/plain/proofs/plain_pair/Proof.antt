@@ -1,7 +1,6 @@
 -- `plain::plain_pair`: every field is kept. Assumes nothing.
 use Rattle.plain.specs.Answers.{enclosedFrom}
 use mathlib.Core.Path.{refl}
-use borrow.Author.Needs.{needs}
 use Rattle.plain.proofs.plain_pair.Statement.{statement}
 use Rattle.plain.proofs.plain_pair.Tie as tie
 

@@ -1,7 +1,7 @@
 -- `shifts::move_into` is right since the 64 bits that come to limb i lie across the run's limb i and the next, and the limbs that the loop
 -- leaves are those of the part from there on, moved down alike. Assumes nothing.
-use mathlib.Core.Path.{_≡_, _∙_}
-use Prim.Native.Nat.{ℕ, _-_, _/_, _^_, _≤_}
+use mathlib.Core.Path.{_∙_}
+use Prim.Native.Nat.{_-_, _/_, _^_, _≤_}
 use native.Mathlib.Omega.{arith}
 use lib.ListN.{length, length-drop}
 use Rattle.limb.specs.Value.{valueIn}

@@ -1,6 +1,5 @@
 -- `shifts::shift_up_into` is right since limb i of what is moved up by k bits is written at i. Assumes nothing.
-use mathlib.Core.Path.{_≡_}
-use Prim.Native.Nat.{ℕ, _-_, _*_, _^_, _≤_}
+use Prim.Native.Nat.{_-_, _*_, _^_, _≤_}
 use native.Mathlib.Omega.{arith}
 use lib.ListN.{length, length-set}
 use Rattle.limb.specs.Value.{valueIn}

@@ -1,6 +1,6 @@
 -- `shifts::windows_into` is right since limb i of what is moved down by some bits is the 64 bits from that bit of limb i on. Assumes nothing.
-use mathlib.Core.Path.{_≡_, _∙_}
-use Prim.Native.Nat.{ℕ, _-_, _/_, _^_, _≤_}
+use mathlib.Core.Path.{_∙_}
+use Prim.Native.Nat.{_-_, _/_, _^_, _≤_}
 use native.Mathlib.Omega.{arith}
 use lib.ListN.{length, length-set}
 use Rattle.limb.specs.Value.{valueIn}

@@ -6,9 +6,6 @@ use Rattle.desklines.proofs.Orders.{size-some}
 use borrow.Author.Needs.{needs}
 use Rattle.desklines.proofs.order.digits_hold.Statement.{statement}
 use Rattle.desklines.proofs.order.digits_hold.Tie as tie
-use Rattle.desklines.proofs.order.digits_hold.Reads as reads
-use Rattle.desklines.proofs.order.digits_hold.Lts as lts
-use Rattle.text.proofs.all_digits.Reads as all-digits-reads
 
 sub-last : tie.Need-sub-last
 sub-last c = omega (arith, size-some, c .before .pre)

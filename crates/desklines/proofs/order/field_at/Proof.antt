@@ -7,9 +7,6 @@ use Rattle.lines.proofs.Fields.{field-whole, field-lt}
 use borrow.Author.Needs.{needs}
 use Rattle.desklines.proofs.order.field_at.Statement.{statement}
 use Rattle.desklines.proofs.order.field_at.Tie as tie
-use Rattle.desklines.proofs.order.field_at.Reads as reads
-use Rattle.desklines.proofs.order.field_at.Lts as lts
-use Rattle.text.proofs.read_digits.Reads as read-digits-reads
 
 add-end : tie.Need-add-end
 add-end c = search needs

@@ -6,11 +6,6 @@ use Rattle.desklines.proofs.Orders.{wrong-size, size-is, no-digits, at-
 use borrow.Author.Needs.{needs}
 use Rattle.desklines.proofs.order.read_order.Statement.{statement}
 use Rattle.desklines.proofs.order.read_order.Tie as tie
-use Rattle.desklines.proofs.order.read_order.Reads as reads
-use Rattle.desklines.proofs.order.read_order.Lts as lts
-use Rattle.desklines.proofs.order.digits_hold.Reads as digits-hold-reads
-use Rattle.desklines.proofs.order.field_at.Reads as field-at-reads
-use Rattle.desklines.proofs.order.refused.Reads as refused-reads
 
 refused-requires : tie.Need-refused-requires
 refused-requires c κs = search needs

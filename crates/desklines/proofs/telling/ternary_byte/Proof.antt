@@ -1,6 +1,5 @@
 -- `groups::ternary_byte`: by the sign. Assumes nothing.
 use mir.Facts.{toZ-ofZ}
-use borrow.Author.Needs.{needs}
 use Rattle.desklines.proofs.Tellings.{below-zero, above-zero, just-zero}
 use Rattle.desklines.proofs.telling.ternary_byte.Statement.{statement}
 use Rattle.desklines.proofs.telling.ternary_byte.Tie as tie

@@ -7,10 +7,6 @@ use Rattle.groups.proofs.Groups.{told-answers}
 use borrow.Author.Needs.{needs}
 use Rattle.groups.proofs.answering.answer.Statement.{statement}
 use Rattle.groups.proofs.answering.answer.Tie as tie
-use Rattle.groups.proofs.answering.answer.Reads as reads
-use Rattle.groups.proofs.answering.answer.Lts as lts
-use Rattle.groups.proofs.answering.answer_first.Reads as answer-first-reads
-use Rattle.desklines.proofs.longest_answer.Reads as longest-answer-reads
 
 longest-answer-requires : tie.Need-longest-answer-requires
 longest-answer-requires c κs = search needs

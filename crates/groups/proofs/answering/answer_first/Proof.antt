@@ -1,16 +1,9 @@
 -- `groups::answer_first`: the first line is refused, or the second is next. Assumes nothing.
-use native.Mathlib.Omega.{arith}
 use Rattle.groups.proofs.Groups.{refused-first}
 use Rattle.groups.proofs.Numbers.{number-held}
 use borrow.Author.Needs.{needs}
 use Rattle.groups.proofs.answering.answer_first.Statement.{statement}
 use Rattle.groups.proofs.answering.answer_first.Tie as tie
-use Rattle.groups.proofs.answering.answer_first.Reads as reads
-use Rattle.groups.proofs.answering.answer_first.Lts as lts
-use Rattle.groups.proofs.answering.answer_second.Reads as answer-second-reads
-use Rattle.groups.proofs.number.limb_count.Reads as limb-count-reads
-use Rattle.groups.proofs.number.read_number.Reads as read-number-reads
-use Rattle.desklines.proofs.put_refusal.Reads as put-refusal-reads
 
 read-number-requires : tie.Need-read-number-requires
 read-number-requires c κs = c .before .before .before .before .before .before .before .before .pre .0

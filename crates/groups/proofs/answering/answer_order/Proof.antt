@@ -3,11 +3,6 @@ use Rattle.groups.proofs.Groups.{refused-third}
 use borrow.Author.Needs.{needs}
 use Rattle.groups.proofs.answering.answer_order.Statement.{statement}
 use Rattle.groups.proofs.answering.answer_order.Tie as tie
-use Rattle.groups.proofs.answering.answer_order.Reads as reads
-use Rattle.groups.proofs.answering.answer_order.Lts as lts
-use Rattle.groups.proofs.answering.answer_sum.Reads as answer-sum-reads
-use Rattle.desklines.proofs.read_order.Reads as read-order-reads
-use Rattle.desklines.proofs.put_refusal.Reads as put-refusal-reads
 
 read-order-requires : tie.Need-read-order-requires
 read-order-requires c κs = search needs

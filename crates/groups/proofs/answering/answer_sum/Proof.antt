@@ -4,11 +4,6 @@ use Rattle.groups.proofs.Groups.{part-formed, part-answered}
 use borrow.Author.Needs.{needs}
 use Rattle.groups.proofs.answering.answer_sum.Statement.{statement}
 use Rattle.groups.proofs.answering.answer_sum.Tie as tie
-use Rattle.groups.proofs.answering.answer_sum.Reads as reads
-use Rattle.groups.proofs.answering.answer_sum.Lts as lts
-use Rattle.groups.proofs.answering.sum.Reads as sum-reads
-use Rattle.groups.proofs.number.limb_count.Reads as limb-count-reads
-use Rattle.desklines.proofs.put_sum.Reads as put-sum-reads
 
 limb-count-requires : tie.Need-limb-count-requires
 limb-count-requires c κs = search needs

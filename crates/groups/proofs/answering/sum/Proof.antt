@@ -3,10 +3,6 @@ use Rattle.groups.proofs.Groups.{operation-minus, operation-plus}
 use borrow.Author.Needs.{needs}
 use Rattle.groups.proofs.answering.sum.Statement.{statement}
 use Rattle.groups.proofs.answering.sum.Tie as tie
-use Rattle.groups.proofs.answering.sum.Reads as reads
-use Rattle.groups.proofs.answering.sum.Lts as lts
-use Rattle.sums.proofs.add.Reads as add-reads
-use Rattle.sums.proofs.subtract.Reads as subtract-reads
 
 subtract-requires : tie.Need-subtract-requires
 subtract-requires c κs = search needs

@@ -7,14 +7,6 @@ use Rattle.groups.proofs.Numbers.{too-long, head-refused, part-length, 
 use borrow.Author.Needs.{needs}
 use Rattle.groups.proofs.number.read_number.Statement.{statement}
 use Rattle.groups.proofs.number.read_number.Tie as tie
-use Rattle.groups.proofs.number.read_number.Reads as reads
-use Rattle.groups.proofs.number.read_number.Lts as lts
-use Rattle.groups.proofs.number.accepted.Reads as accepted-reads
-use Rattle.groups.proofs.number.limb_count.Reads as limb-count-reads
-use Rattle.groups.proofs.number.refused.Reads as refused-reads
-use Rattle.lines.proofs.longest_line.Reads as longest-line-reads
-use Rattle.reader.proofs.read_head.Reads as read-head-reads
-use Rattle.reader.proofs.read_line.Reads as read-line-reads
 
 longest-line-requires : tie.Need-longest-line-requires
 longest-line-requires c κs = search needs

@@ -3,7 +3,8 @@ use mathlib.Core.Path.{refl}
 use native.Mathlib.Omega.{arith}
 use mir.Facts.{toZ-ofZ}
 use Rattle.narrow.specs.Sighting.{topLimb}
-use Rattle.narrow.proofs.InOrder.{handed-some, gap-some, facing, looked}
+use Rattle.ending.proofs.Handed.{handed-some}
+use Rattle.narrow.proofs.InOrder.{gap-some, facing, looked}
 use borrow.Author.Needs.{needs}
 use Rattle.narrow.proofs.looking.look.Statement.{statement}
 use Rattle.narrow.proofs.looking.look.Tie as tie

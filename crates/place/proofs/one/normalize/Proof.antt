@@ -3,14 +3,14 @@
 use native.Mathlib.Omega.{arith}
 use lib.Count.{leadingZeros}
 use Rattle.numbers.specs.Limits.{mostExponent, bias}
-use Rattle.place.proofs.Normalized.{ToTop, zeros-top, lowered, stays, raised}
+use Rattle.place.proofs.Normalized.{ToTop, brought-top, lowered, stays, raised}
 use borrow.Author.Needs.{needs}
 use Rattle.place.proofs.one.normalize.Statement.{statement}
 use Rattle.place.proofs.one.normalize.Tie as tie
 
 -- the limb is not 0 where there is no carry
 top : (c : tie.Else1) → ToTop (c .before .args .limb) (leadingZeros 64 (c .before .args .limb))
-top c = let s = c .before in zeros-top (s .args .limb) (s .pre .0 (c .if1 .left)) (s .fits .limb .fits)
+top c = let s = c .before in brought-top (s .args .limb) (s .pre .0 (c .if1 .left)) (s .fits .limb .fits)
 
 add-higher : tie.Need-add-higher
 unfolding mostExponent bias

@@ -1,6 +1,5 @@
 -- `run::rsub_each` is right since after i turns the target's lowest i limbs, with those that stood there and the borrow in, are worth the
 -- operand's lowest i limbs with the borrow on top, and the limbs from i on stand as they did. Assumes nothing.
-use mathlib.Core.Path.{_≡_}
 use Prim.Native.Nat.{_-_, _≤_}
 use native.Mathlib.Omega.{arith}
 use lib.ListN.{length, length-set}

@@ -1,8 +1,6 @@
 -- `run::rsub_into` is right since after i limbs the target's lowest i limbs, with those that stood there and the borrow in, are worth the
 -- operand's lowest i limbs with the borrow on top, and the part from limb i on, which stands as it did, is left to `rsub_each`. Assumes nothing.
-use mathlib.Core.Path.{_≡_}
-use mathlib.Core.List.{List}
-use Prim.Native.Nat.{ℕ, _-_, _≤_}
+use Prim.Native.Nat.{_-_, _≤_}
 use native.Mathlib.Omega.{arith}
 use lib.ListN.{length}
 use Rattle.parts.proofs.Parts.{part-is}

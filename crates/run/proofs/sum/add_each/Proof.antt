@@ -1,6 +1,5 @@
 -- `run::add_each` is right since after i turns the target, with the carry on top of its lowest i limbs, is worth what it was, the
 -- operand's lowest i limbs and the carry in. Assumes nothing.
-use mathlib.Core.Path.{_≡_}
 use Prim.Native.Nat.{_-_, _≤_}
 use native.Mathlib.Omega.{arith}
 use lib.ListN.{length, length-set}

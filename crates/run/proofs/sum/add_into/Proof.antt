@@ -1,6 +1,5 @@
 -- `run::add_into` is right since after i limbs the target, with the carry on top of its lowest i limbs, is worth what it was, the
 -- operand's lowest i limbs and the carry in, and the part from limb i on is left to `add_each`. Assumes nothing.
-use mathlib.Core.Path.{_≡_}
 use Prim.Native.Nat.{_-_, _≤_}
 use native.Mathlib.Omega.{arith}
 use lib.ListN.{length}

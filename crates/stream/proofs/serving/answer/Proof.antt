@@ -4,9 +4,6 @@ use Rattle.stream.proofs.Pieces.{whole-part}
 use borrow.Author.Needs.{needs}
 use Rattle.stream.proofs.serving.answer.Statement.{statement}
 use Rattle.stream.proofs.serving.answer.Tie as tie
-use Rattle.stream.proofs.serving.answer.Reads as reads
-use Rattle.stream.proofs.serving.answer.Lts as lts
-use Rattle.groups.proofs.answer.Reads as answer-reads
 
 sub-answer : tie.Need-sub-answer
 sub-answer c = search needs

@@ -3,9 +3,6 @@ use Rattle.stream.specs.Desk.{cutShort}
 use borrow.Author.Needs.{needs}
 use Rattle.stream.proofs.serving.cut_short.Statement.{statement}
 use Rattle.stream.proofs.serving.cut_short.Tie as tie
-use Rattle.stream.proofs.serving.cut_short.Reads as reads
-use Rattle.stream.proofs.serving.cut_short.Lts as lts
-use Rattle.desklines.proofs.refuse.Reads as refuse-reads
 
 refuse-requires : tie.Need-refuse-requires
 refuse-requires c κs = search needs

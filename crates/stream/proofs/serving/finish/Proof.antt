@@ -5,12 +5,6 @@ use Rattle.stream.proofs.Pieces.{is-ready, finish-unready, finish-nothi
 use borrow.Author.Needs.{needs}
 use Rattle.stream.proofs.serving.finish.Statement.{statement}
 use Rattle.stream.proofs.serving.finish.Tie as tie
-use Rattle.stream.proofs.serving.finish.Reads as reads
-use Rattle.stream.proofs.serving.finish.Lts as lts
-use Rattle.cutting.proofs.within.Reads as within-reads
-use Rattle.stream.proofs.serving.answer.Reads as answer-reads
-use Rattle.stream.proofs.serving.cut_short.Reads as cut-short-reads
-use Rattle.stream.proofs.serving.ready.Reads as ready-reads
 
 ready-requires : tie.Need-ready-requires
 ready-requires c κs = search needs

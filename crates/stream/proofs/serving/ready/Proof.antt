@@ -4,10 +4,6 @@ use Rattle.stream.proofs.Pieces.{many-lines, wrong-first, wrong-second,
 use borrow.Author.Needs.{needs}
 use Rattle.stream.proofs.serving.ready.Statement.{statement}
 use Rattle.stream.proofs.serving.ready.Tie as tie
-use Rattle.stream.proofs.serving.ready.Reads as reads
-use Rattle.stream.proofs.serving.ready.Lts as lts
-use Rattle.desklines.proofs.longest_answer.Reads as longest-answer-reads
-use Rattle.cutting.proofs.line_room.Reads as line-room-reads
 
 line-room-requires : tie.Need-line-room-requires
 line-room-requires c κs = search needs

@@ -5,10 +5,6 @@ use Rattle.stream.proofs.Pieces.{serve-unready}
 use borrow.Author.Needs.{needs}
 use Rattle.stream.proofs.serving.serve.Statement.{statement}
 use Rattle.stream.proofs.serving.serve.Tie as tie
-use Rattle.stream.proofs.serving.serve.Reads as reads
-use Rattle.stream.proofs.serving.serve.Lts as lts
-use Rattle.stream.proofs.serving.ready.Reads as ready-reads
-use Rattle.stream.proofs.serving.serve_groups.Reads as serve-groups-reads
 
 ready-requires : tie.Need-ready-requires
 ready-requires c κs = search needs

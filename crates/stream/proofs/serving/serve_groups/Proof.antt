@@ -7,12 +7,6 @@ use Rattle.stream.proofs.Pieces.{Serving, serving-begins, stops-full, s
 use borrow.Author.Needs.{needs}
 use Rattle.stream.proofs.serving.serve_groups.Statement.{statement}
 use Rattle.stream.proofs.serving.serve_groups.Tie as tie
-use Rattle.stream.proofs.serving.serve_groups.Reads as reads
-use Rattle.stream.proofs.serving.serve_groups.Lts as lts
-use Rattle.desklines.proofs.longest_answer.Reads as longest-answer-reads
-use Rattle.cutting.proofs.cut.Reads as cut-reads
-use Rattle.cutting.proofs.start.Reads as start-reads
-use Rattle.stream.proofs.serving.answer.Reads as answer-reads
 
 abbrev Inv-loop : tie.InvT-loop
 Inv-loop bytes first₀ second₀ third₀ out₀ most h₀ taken₀ told₀ first second third out h taken told =

@@ -5,28 +5,29 @@ use native.Mathlib.Omega.{arith}
 use mir.Facts.{toZ-ofZ}
 use Rattle.rounding.specs.Mode.{modeOf}
 use Rattle.checks.specs.Number.{operandOf}
-use Rattle.wide.proofs.InOrder.{limbs-some, gap-some, offered, holding, sign-told, attempted-told}
+use Rattle.ending.proofs.Handed.{handed-some}
+use Rattle.wide.proofs.InOrder.{gap-some, offered, holding, sign-told, attempted-told}
 use borrow.Author.Needs.{needs}
 use Rattle.wide.proofs.attempting.attempt.Statement.{statement}
 use Rattle.wide.proofs.attempting.attempt.Tie as tie
 
 sub-u : tie.Need-sub-u
-sub-u c = omega (arith, limbs-some (c .before .before .before .args .x) (c .before .before .before .args .xl .now) (c .before .before .before .pre .0))
+sub-u c = omega (arith, handed-some (c .before .before .before .args .x) (c .before .before .before .args .xl .now) (c .before .before .before .pre .0))
 
 mul-u : tie.Need-mul-u
 mul-u c = search needs
 
 shared-slice-read-u : tie.Need-shared-slice-read-u
-shared-slice-read-u c = omega (arith, limbs-some (c .before .before .before .before .args .x) (c .before .before .before .before .args .xl .now) (c .before .before .before .before .pre .0))
+shared-slice-read-u c = omega (arith, handed-some (c .before .before .before .before .args .x) (c .before .before .before .before .args .xl .now) (c .before .before .before .before .pre .0))
 
 sub-v : tie.Need-sub-v
-sub-v c = omega (arith, limbs-some (c .before .before .before .before .args .y) (c .before .before .before .before .args .yl .now) (c .before .before .before .before .pre .2))
+sub-v c = omega (arith, handed-some (c .before .before .before .before .args .y) (c .before .before .before .before .args .yl .now) (c .before .before .before .before .pre .2))
 
 mul-v : tie.Need-mul-v
 mul-v c = search needs
 
 shared-slice-read-v : tie.Need-shared-slice-read-v
-shared-slice-read-v c = omega (arith, limbs-some (c .before .before .before .before .before .args .y) (c .before .before .before .before .before .args .yl .now) (c .before .before .before .before .before .pre .2))
+shared-slice-read-v c = omega (arith, handed-some (c .before .before .before .before .before .args .y) (c .before .before .before .before .before .args .yl .now) (c .before .before .before .before .before .pre .2))
 
 counted-exponent-requires : tie.Need-counted-exponent-requires
 counted-exponent-requires c κs = search needs
