@@ -27,11 +27,11 @@ turned-said t x e same = rw same (go t (x .negative))
     go false true = refl
     go false false = refl
 
-pub summed-either : (t : Bool) (mode : ℕ) (x y : PlainNumber) (xl yl : List ℕ) (p : ℕ) (entry exit : List ℕ) (a b c : Number) (s : Sum)
-    → a ≡ numberFrom x → b ≡ numberFrom y → c ≡ cond t (turnedNumber b) b → Summed plus mode a xl c yl p entry exit s
-    → (t ≡ false → Summed plus mode (numberFrom x) xl (numberFrom y) yl p entry exit s)
-    × (t ≡ true → Summed minus mode (numberFrom x) xl (numberFrom y) yl p entry exit s)
-summed-either t mode x y xl yl p entry exit a b c s first second turned h = (
-  (λ f. let g = rw (turned, f) at h in rw (first, second) at g),
-  (λ f. let g = summed-turned mode a xl b yl p entry exit s (rw (turned, f) at h) in rw (first, second) at g),
+pub summed-either : (t : Bool) (mode : ℕ) (x y : PlainNumber) (xl yl : List ℕ) (p : ℕ) (entry exit : List ℕ) (a b c : Number) (s r : Sum)
+    → a ≡ numberFrom x → b ≡ numberFrom y → c ≡ cond t (turnedNumber b) b → r ≡ s → Summed plus mode a xl c yl p entry exit s
+    → (t ≡ false → Summed plus mode (numberFrom x) xl (numberFrom y) yl p entry exit r)
+    × (t ≡ true → Summed minus mode (numberFrom x) xl (numberFrom y) yl p entry exit r)
+summed-either t mode x y xl yl p entry exit a b c s r first second turned same h = (
+  (λ f. let g = rw (turned, f) at h in rw same (rw (first, second) at g)),
+  (λ f. let g = summed-turned mode a xl b yl p entry exit s (rw (turned, f) at h) in rw same (rw (first, second) at g)),
 )
