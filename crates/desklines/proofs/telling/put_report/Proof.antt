@@ -32,7 +32,7 @@ same-length c = search needs
 returns : tie.Need-returns
 returns c =
     let g = c .before .before .before .before .before .before .before .before .before .before .before .before .before .before .before .before .before .before .before .before .before .before .before .args in
-    let f : SFits w8 (g .s .ternary) = record { sfits = c .before .before .before .before .before .before .before .before .before .before .before .before .before .before .before .before .before .before .before .before .struct-told .given .1 .0 .1 } in
+    let f : SFits w8 (g .s .ternary) = record { sfits = c .before .before .before .before .before .before .before .before .before .before .before .before .before .before .before .before .before .before .before .before .struct-told .given .1 .1 .1 .0 .1 } in
     report-told (g .s) (g .at) _ (g .out .now) _ _ _ _ _ _ _ _ _ _ (rw (toZ-ofZ f) at (c .before .before .before .before .before .before .before .before .before .before .before .before .before .before .before .before .before .before .before .ternary-byte .ensures)) (c .before .before .before .before .before .before .before .before .before .before .before .before .before .before .before .before .before .before .put .ensures) (c .before .before .before .before .before .before .before .before .before .before .before .before .before .before .put2 .ensures) (c .before .before .before .before .before .before .before .before .before .before .put3 .ensures) (c .before .before .before .before .before .before .put4 .ensures) (c .before .before .put-end .ensures)
 
 pub put-report-spec : {M : Type 1} → statement M
