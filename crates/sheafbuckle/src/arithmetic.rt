@@ -30,11 +30,17 @@ fn turned_if(turn: bool, x: Number) -> Number
 fn copied_sum(s: Sum) -> Sum
     ensures { λ r. ⌜ r ≡ s ⌝ }
 {
-    let number = checks::copied(s.number);
+    let number = s.number;
+    let kind = number.kind;
     let refusal = s.refusal;
     Sum {
         depth: s.depth,
-        number: number,
+        number: Number {
+            negative: number.negative,
+            kind: kind,
+            precision: number.precision,
+            exponent: number.exponent,
+        },
         first: s.first,
         ternary: s.ternary,
         second: s.second,
