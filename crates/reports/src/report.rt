@@ -15,7 +15,7 @@ use checks::Refusal;
 use place::Placed;
 
 // The depth, the number, the limbs used of the first operand and of the second, the ternary value, and the refusal. No two of the three
-// counts stand side by side: two of them, written one by one and then read as one, would have the reader wait.
+// counts stand side by side, so that two of them, written one by one, are not read as one.
 pub struct Sum {
     pub depth: u64,
     pub number: Number,
