@@ -1,6 +1,6 @@
--- What a glance at the full target fixes, and how the walk goes on from there. Assumes nothing.
-use mathlib.Core.Path.{_≡_, refl, sym, ap, _∙_, subst}
-use mathlib.Core.Bool.{Bool, true, false, true≢false}
+-- What a glance at the full target fixes, and what is read where it is full. Assumes nothing.
+use mathlib.Core.Path.{_≡_, refl, sym, subst}
+use mathlib.Core.Bool.{Bool, true, false}
 use mathlib.Core.List.{List}
 use Prim.Native.Nat.{ℕ, _+_, _-_, _*_, _^_, _≤_, _<_}
 use native.Mathlib.Omega.{arith}
@@ -11,44 +11,37 @@ use Rattle.rounding.specs.Mode.{Mode}
 use Rattle.decide.specs.Decide.{decideAt}
 use Rattle.walk.specs.Window.{headOf, Shows, shownColumns}
 use Rattle.walk.specs.declared.state.Window.{Window}
-use Rattle.walk.specs.declared.state.Tail.{Tail}
-use Rattle.walk.specs.declared.state.Tail.the-variants.{Empty}
 use Rattle.walk.proofs.Showing.{columns-guarded}
-use Rattle.leap.specs.Leap.{Leapt, leaptTo}
+use Rattle.leap.specs.Leap.{Leapt}
 use Rattle.settle.specs.Ways.{wayIs}
-use Rattle.settle.specs.Rows.{rowOf, Modest}
+use Rattle.settle.specs.Rows.{rowOf}
 use Rattle.settle.specs.declared.rows.Pair.{Pair}
 use Rattle.settle.specs.declared.rows.Way as code
 use Rattle.settle.specs.declared.rows.Row.the-variants.{Exact, Plus, Minus}
 use Rattle.bridge.specs.Verdict.{pairOf, readSum}
 use Rattle.descent.specs.declared.going.Verdict.{Verdict}
-use Rattle.descent.specs.declared.going.Verdict.the-variants.{Open, Fixed}
+use Rattle.descent.specs.declared.going.Verdict.the-variants.{Fixed}
 use Rattle.descent.specs.Ready.{Room}
-use Rattle.descent.specs.Course.{Course, Judged, Stopped, Prompt, Held, Reached, Arriving, Full, Inside, open?}
+use Rattle.descent.specs.Course.{Course, Judged, Prompt, Held, Reached, Full, Inside}
 use Rattle.descent.proofs.JudgingRange.{digits-some, settled-as}
-use Rattle.descent.proofs.JudgingRows.{arrived-modest, told-exact, told-plus, told-minus}
-use Rattle.descent.proofs.GoingDown.{stops}
-use Rattle.descent.proofs.AtOnce.{reached, before-open, arriving-arrived}
+use Rattle.descent.proofs.JudgingRows.{told-exact, told-plus, told-minus}
+use Rattle.descent.proofs.AtOnce.{reached, before-open}
 use Rattle.descent.proofs.Inside.{inside-plus, inside-minus}
 
 -- ---- what a row says
 
 abbrev Says : ℕ → Pair → Window → ℕ → List ℕ → Verdict → Type 0
 Says p pair w k target v =
-    open? v ≡ false → (o : Mode) (x y : Operand) (toward : code.Way) (first second : List ℕ) → Held o x y toward pair first second → Reached x y w target k → Judged o p x y k v
+    (o : Mode) (x y : Operand) (toward : code.Way) (first second : List ℕ) → Held o x y toward pair first second → Reached x y w target k → Judged o p x y k v
 
 module _ (p : ℕ) (pair : Pair) (w : Window) (k : ℕ) (target : List ℕ) (room : Room p (length target)) where
   pub glance-exact : rowOf pair k ≡ Exact → Says p pair w k target (Fixed false)
-  glance-exact e f o x y toward first second held r = told-exact o p (digits-some p (length target) room) x y toward pair first second held w target k r e
-
-  pub glance-open : Says p pair w k target Open
-  unfolding open?
-  glance-open f = absurd (true≢false f)
+  glance-exact e o x y toward first second held r = told-exact o p (digits-some p (length target) room) x y toward pair first second held w target k r e
 
   module _ (inside : (k D : ℕ) → Shows w target k D → Inside p D) where
     pub glance-plus : (least next most : Bool) → rowOf pair k ≡ Plus least next most → Says p pair w k target (Fixed least)
     unfolding bit
-    glance-plus least next most e f o x y toward first second held r =
+    glance-plus least next most e o x y toward first second held r =
         told-plus o p (digits-some p (length target) room) x y toward pair first second held w target k r least next most e (Fixed least)
         (λ D s m. settled-as pair _ least _ true (sym (inside-plus p D (inside k D s) (wayIs toward) least (bit next) (one next) most)) refl)
       where
@@ -57,20 +50,11 @@ module _ (p : ℕ) (pair : Pair) (w : Window) (k : ℕ) (target : List ℕ) (roo
         one false = omega arith
 
     pub glance-minus : (most : Bool) → rowOf pair k ≡ Minus most → Says p pair w k target (Fixed most)
-    glance-minus most e f o x y toward first second held r =
+    glance-minus most e o x y toward first second held r =
         told-minus o p (digits-some p (length target) room) x y toward pair first second held w target k r most e (Fixed most)
         (λ D s m. settled-as pair _ most _ true (sym (inside-minus p D (inside k D s) (digits-some p (length target) room) (wayIs toward) most)) refl)
 
 -- ---- the target is filled from the first column on
-
-window-is : (u : Window) (n : ℕ) → u .skipped ≡ 0 → u .filled ≡ n → u .guarded ≡ false → u .guard ≡ 0 → u .tail ≡ Empty → u ≡ leaptTo 0 (u .carry) n
-unfolding leaptTo
-window-is u n a b c d e =
-    ap (λ (m : ℕ). record { skipped = m; carry = u .carry; filled = u .filled; guarded = u .guarded; guard = u .guard; tail = u .tail }) a
-    ∙ ap (λ (m : ℕ). record { skipped = 0; carry = u .carry; filled = m; guarded = u .guarded; guard = u .guard; tail = u .tail }) b
-    ∙ ap (λ (g : Bool). record { skipped = 0; carry = u .carry; filled = n; guarded = g; guard = u .guard; tail = u .tail }) c
-    ∙ ap (λ (m : ℕ). record { skipped = 0; carry = u .carry; filled = n; guarded = false; guard = m; tail = u .tail }) d
-    ∙ ap (λ (t : Tail). record { skipped = 0; carry = u .carry; filled = n; guarded = false; guard = 0; tail = t }) e
 
 module _ (p : ℕ) (pair : Pair) (first second before after : List ℕ) (room : Room p (length before)) (prompt : Prompt pair (length first) (length second) 0 (length before)) (w : Window)
     (filled : (x y : Operand) → Course x y 0 → pair ≡ pairOf x y → first ≡ x .limbs → (y .isZero ≡ false → second ≡ y .limbs) → Leapt 0 (0 + length before) (readSum x y (0 + length before)) before after w)
@@ -84,12 +68,6 @@ module _ (p : ℕ) (pair : Pair) (first second before after : List ℕ) (room : 
 
     pub first-open : 1 < length after → decideAt o p x y (length after - 1) ≡ false
     first-open = subst (λ (m : ℕ). 1 < m → decideAt o p x y (m - 1) ≡ false) none (before-open p pair first second 0 before after room prompt w filled ahead o x y toward held course)
-
-    pub first-arriving : Arriving p toward pair first second w after (length after)
-    first-arriving = record { mode = o; larger = x; other = y; held = held; reached = first-reached }
-
-    pub first-modest : Modest pair (length after)
-    first-modest = arrived-modest _ _ _ _ _ _ (arriving-arrived p toward pair first second w after (length after) first-arriving)
 
     leapt : Leapt 0 (0 + length before) (readSum x y (0 + length before)) before after w
     leapt = filled x y course (held .pair-is) (held .first-is) (held .second-is)
@@ -109,12 +87,3 @@ module _ (p : ℕ) (pair : Pair) (first second before after : List ℕ) (room : 
           where
             columns-at : w .guarded ≡ true → w .skipped + shownColumns w + first-reached .shows .below ≡ length after → w .skipped + (w .filled + 1) + first-reached .shows .below ≡ length after
             columns-at e h = rw (columns-guarded w after e) at h
-
-    stopped : Room p (length after) → (v : Verdict) → Says p pair w (length after) after v → open? v ≡ false → Stopped o p x y (record { window = w; columns = length after; verdict = v }) after
-    stopped room-after v says e =
-        stops o p x y w after (length after) v room-after first-reached (says e o x y toward first second held first-reached) (length after - 1) (omega (arith, first-reached .some)) (λ j. first-open (omega arith)) e
-
-    pub first-stopped : Room p (length after) → (v : Verdict) → Says p pair w (length after) after v → open? v ≡ false → (u : Window) → u ≡ leaptTo 0 (w .carry) (length after) → Stopped o p x y (record { window = u; columns = length after; verdict = v }) after
-    first-stopped room-after v says e u is =
-        let n = first-full .fits .untailed (first-full .unguarded) in
-        subst (λ (z : Window). Stopped o p x y (record { window = z; columns = length after; verdict = v }) after) (window-is w (length after) (leapt .same-skip) (first-full .filled) (first-full .unguarded) (n .1) (n .0) ∙ sym is) (stopped room-after v says e)

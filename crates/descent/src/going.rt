@@ -210,7 +210,7 @@ fn judge(way: Way, w: Window, target: &[u64], p: u64, pair: Pair, first: &[u64],
     }
 }
 
-pub fn is_open(verdict: Verdict) -> bool
+fn is_open(verdict: Verdict) -> bool
     ensures { λ r. ⌜ r ≡ open? verdict ⌝ }
 {
     match verdict {
@@ -274,7 +274,7 @@ fn descend(
 }
 
 // Walks on after k columns, of which one fewer fixes nothing.
-pub fn walk_on(
+fn walk_on(
     way: Way,
     p: u64,
     pair: Pair,
@@ -299,7 +299,7 @@ pub fn walk_on(
 }
 
 // Walks column by column from one on.
-pub fn walk_slowly(
+fn walk_slowly(
     way: Way,
     p: u64,
     pair: Pair,

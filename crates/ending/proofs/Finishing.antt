@@ -368,16 +368,6 @@ module _ (w : Window) (before after : List ℕ) (k D : ℕ) (s : Shows w before 
               go false false false g e f h = open-said g ∙ rw e refl
               go true false false g e f h = guarded-said g ∙ rw e (guarded-borrow g f)
 
--- no limb is cleared of a full target
-cleared-none : (n : ℕ) (t : List ℕ) → n ≡ 0 → Cleared n t t
-cleared-none n t e = record { size = refl; value = rw (e, pow-zero) (alone (valueOf t)) }
-  where
-    alone : (m : ℕ) → m ≡ 1 * m
-    alone m = omega arith
-
-pub cleared-full : (w : Window) (t : List ℕ) → length t ≤ w .filled → Cleared (length t - w .filled) t t
-cleared-full w t h = cleared-none (length t - w .filled) t (omega arith)
-
 -- ---- as the code finds it
 
 module _ (mode p top : ℕ) (negative : Bool) (w : Window) (before after : List ℕ) (end : Ending p top w before) (e : Cleared (length before - w .filled) before after)
@@ -402,11 +392,6 @@ module _ (mode p top : ℕ) (negative : Bool) (w : Window) (before after : List 
 
   pub hole-ready : Room p (length after) × (0 < place) × (place ≤ 2 * mostExponent)
   hole-ready = (room-after, place-some, place-near)
-
-  pub fit-ready : (w .carry || ltb 0 (getD after (length after - 1) 0)) ≡ true → runRule p (w .carry) after place ≡ 0
-  fit-ready led =
-      let r = room-after in
-      sym (rule-none p (w .carry) after place (rw (le-leb leastPrecision p (r .least), le-leb p mostPrecision (r .most)) refl) (eq-eqb (length after) (limbsFor p) (r .count)) (rw (lt-ltb 0 place place-some, le-leb place (2 * mostExponent) place-near) refl) led)
 
   left-run : (by : ℕ) (more : Bool) → 2 ^ (64 * length before) ≤ whole (w .carry) after (w .guard) → {exit : List ℕ} {r : Placed}
       → r ≡ roundedPlaced by p negative place (w .carry) after (w .guard) more → exit ≡ roundedLimbs by p negative place (w .carry) after (w .guard) more

@@ -79,42 +79,6 @@ fn fixed(
     )
 }
 
-// The same, at once where the target is full and has its first digit.
-fn fixed_full(
-    mode: u8,
-    negative: bool,
-    p: u64,
-    top: u64,
-    w: Window,
-    more: bool,
-    target: &mut [u64],
-) -> Placed
-    requires { ⌜ Ending p top w (now target) ⌝ }
-    ensures { λ r. ⌜ ((k D : ℕ) → Shows w (now (target .entry)) k D → 0 < D → 64 * k < top → (more ≡ true → enough (way (modeOf mode) negative) p D ≡ true) → Left p (rounded (way (modeOf mode) negative) p (top - 64 * k - 1) negative (2 * D + bit more)) (now (target .exit)) r) ⌝ }
-{
-    let n = target.len();
-    if w.filled < n {
-        return fixed(mode, negative, p, top, w, more, target);
-    }
-    let led = w.carry | (0 < target[n - 1]);
-    if !led {
-        return fixed(mode, negative, p, top, w, more, target);
-    }
-    let weight = top - 64 * (w.skipped + n as u64 + 1);
-    let tail = w.tail;
-    let deep = holds_more(tail);
-    place::round_fit(
-        negative,
-        w.carry,
-        target,
-        w.guard,
-        more | deep,
-        weight,
-        p,
-        mode,
-    )
-}
-
 // The mode by which a hole is rounded: from a tie, to the side on which the second operand lies.
 fn hole_mode(mode: u8, negative: bool, p: u64, pair: Pair) -> u8
     ensures { λ r. ⌜ way (modeOf r) negative ≡ holeWay (way (modeOf mode) negative) p pair ⌝ }
@@ -209,27 +173,5 @@ pub fn finish(
         Verdict::Fixed(more) => fixed(mode, negative, p, pair.top, w, more, target),
         Verdict::InHole => hole(mode, negative, p, pair, w, target),
         Verdict::Refused(rule) => refuse(rule, target),
-    }
-}
-
-// The same, at once where it ended in a full target.
-pub fn finish_full(
-    mode: u8,
-    negative: bool,
-    p: u64,
-    pair: Pair,
-    walked: Walked,
-    target: &mut [u64],
-) -> Placed
-    requires { ⌜ Ending p (pair .top) (walked .window) (now target) ⌝ }
-    ensures { λ r. ⌜ ((x y : Operand) (from : ℕ) → Course x y from → pair ≡ pairOf x y → negative ≡ x .negative → Stopped (modeOf mode) p x y walked (now (target .entry)) → Left p (add (modeOf mode) p x y) (now (target .exit)) r) ⌝ }
-{
-    let w = walked.window;
-    let verdict = walked.verdict;
-    match verdict {
-        Verdict::Open => finish(mode, negative, p, pair, walked, target),
-        Verdict::Fixed(more) => fixed_full(mode, negative, p, pair.top, w, more, target),
-        Verdict::InHole => finish(mode, negative, p, pair, walked, target),
-        Verdict::Refused(_) => finish(mode, negative, p, pair, walked, target),
     }
 }

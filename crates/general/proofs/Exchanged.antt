@@ -17,16 +17,12 @@ use Rattle.reports.specs.declared.report.Sum.{Sum}
 use Rattle.reports.specs.Exchanged.{exchangedSum}
 use Rattle.reports.specs.Summed.{sumOf, refusedSum, Reported}
 
-pub sum-exchanged : (a : Answer) (p d u v : ℕ) → exchangedSum (sumOf a p d u v) ≡ sumOf a p d v u
+sum-exchanged : (a : Answer) (p d u v : ℕ) → exchangedSum (sumOf a p d u v) ≡ sumOf a p d v u
 unfolding exchangedSum sumOf refusedSum
 sum-exchanged (zeroOf n) p d u v = refl
 sum-exchanged (number n e m t) p d u v = refl
 sum-exchanged tooLarge p d u v = refl
 sum-exchanged tooSmall p d u v = refl
-
-pub exchanged-back : (s : Sum) → s ≡ exchangedSum (exchangedSum s)
-unfolding exchangedSum
-exchanged-back s = refl
 
 module _ (o : Mode) (p : ℕ) (P : 0 < p) (x y : Operand) (some : (x .isZero && y .isZero) ≡ false) where
   others : (y .isZero && x .isZero) ≡ false
@@ -38,7 +34,7 @@ module _ (o : Mode) (p : ℕ) (P : 0 < p) (x y : Operand) (some : (x .isZero && 
       go false true e = refl
       go false false e = refl
 
-  pub reported-exchanged : (exit : List ℕ) (r : Sum) → Reported plus o p y x exit r → Reported plus o p x y exit (exchangedSum r)
+  reported-exchanged : (exit : List ℕ) (r : Sum) → Reported plus o p y x exit r → Reported plus o p x y exit (exchangedSum r)
   unfolding exchangedSum
   reported-exchanged exit r d =
       let t = top-exchange x y some in
@@ -52,7 +48,7 @@ module _ (o : Mode) (p : ℕ) (P : 0 < p) (x y : Operand) (some : (x .isZero && 
         target = d .target ∙ ap (limbsAfter p) (result-exchange o p P y x);
       }
 
--- a zero and a regular number: the sum of the two in the other order, its counts exchanged
+-- the sum of the two in the other order, its counts exchanged
 pub zero-first : (mode p n : ℕ) (x y : Operand) (exit : List ℕ) (s r : Sum) → Room p n → y .isZero ≡ false → r ≡ exchangedSum s
     → Reported plus (modeOf mode) p y x exit s → Reported plus (modeOf mode) p x y exit r
 zero-first mode p n x y exit s r room b e d =

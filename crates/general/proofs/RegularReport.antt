@@ -117,10 +117,6 @@ limbs-are : (x : Number) (xl : List ℕ) → xl ≡ operandOf x xl .limbs
 unfolding operandOf
 limbs-are x xl = refl
 
-top-told : (x y : Operand) → pairOf x y .top ≡ x .exponent
-unfolding pairOf
-top-told x y = refl
-
 -- the walk of a number alone begins
 pub single-begun : (mode : ℕ) (x : Number) (xl : List ℕ) (by : Way) (c : ℕ) → WellFormed (operandOf x xl) → operandOf x xl .isZero ≡ false → wayIs by ≡ way (modeOf mode) (x .negative) → c ≡ counted (x .exponent)
     → Begun by (record { same = true; first = x .precision; second = 0; gap = 0; top = c }) xl xl 0

@@ -1,6 +1,6 @@
 // Sums of regular numbers.
 ghost use mathlib.Core.Path.{_≡_};
-ghost use mathlib.Core.Bool.{true, false, cond};
+ghost use mathlib.Core.Bool.{true, false};
 ghost use Prim.Native.Nat.{_≤_, max};
 ghost use lib.ListN.{length};
 ghost use Rattle.numbers.specs.Operand.{Operand, WellFormed};
@@ -79,73 +79,6 @@ fn ordered(
     )
 }
 
-// The first of two counts, or the second.
-fn either(second: bool, a: u64, b: u64) -> u64
-    ensures { λ r. ⌜ r ≡ cond second b a ⌝ }
-{
-    if second { b } else { a }
-}
-
-// Two regular numbers in order, the first larger from the first column on where their signs are unlike. Reports them in the other order
-// where so said.
-fn ordered_first(
-    mode: u8,
-    x: Number,
-    xl: &[u64],
-    y: Number,
-    yl: &[u64],
-    p: u64,
-    swapped: bool,
-    target: &mut [u64],
-) -> Sum
-    requires { ⌜ (operandOf y (now yl) .isZero ≡ false) × Course (operandOf x (now xl)) (operandOf y (now yl)) 0 × Room p (length (now target)) ⌝ }
-    ensures { λ r. ⌜ (swapped ≡ false → Reported plus (modeOf mode) p (operandOf x (now (xl .entry))) (operandOf y (now (yl .entry))) (now (target .exit)) r) × (swapped ≡ true → Reported plus (modeOf mode) p (operandOf y (now (yl .entry))) (operandOf x (now (xl .entry))) (now (target .exit)) r) ⌝ }
-{
-    let negative = x.negative;
-    let top = checks::counted_exponent(x.exponent);
-    let gap = top - checks::counted_exponent(y.exponent);
-    let pair = Pair {
-        same: negative == y.negative,
-        first: x.precision,
-        second: y.precision,
-        gap: gap,
-        top: top,
-    };
-    let walked = descent::walk_first(settle::way_of(mode, negative), p, pair, xl, yl, target);
-    let k = walked.columns;
-    let placed = ending::finish_full(mode, negative, p, pair, walked, target);
-    let lower = reports::used(k, gap, yl.len());
-    let upper = reports::used(k, 0, xl.len());
-    reports::answered(
-        placed,
-        negative,
-        p,
-        k,
-        either(swapped, upper, lower),
-        either(swapped, lower, upper),
-    )
-}
-
-// Two regular numbers in order, the first larger from a column on where their signs are unlike: at once where it is the first.
-fn ordered_from(
-    mode: u8,
-    x: Number,
-    xl: &[u64],
-    y: Number,
-    yl: &[u64],
-    p: u64,
-    from: u64,
-    target: &mut [u64],
-) -> Sum
-    requires { ⌜ (operandOf y (now yl) .isZero ≡ false) × Course (operandOf x (now xl)) (operandOf y (now yl)) from × Room p (length (now target)) ⌝ }
-    ensures { λ r. ⌜ Reported plus (modeOf mode) p (operandOf x (now (xl .entry))) (operandOf y (now (yl .entry))) (now (target .exit)) r ⌝ }
-{
-    if from == 0 {
-        return ordered_first(mode, x, xl, y, yl, p, false, target);
-    }
-    ordered(mode, x, xl, y, yl, p, from, target)
-}
-
 // No column in which two operands differ, of so many; or the first, where the first is larger, or the second.
 pub enum Differ {
     Never(u64),
@@ -198,8 +131,8 @@ fn unlike(mode: u8, x: Number, xl: &[u64], y: Number, yl: &[u64], p: u64, target
                 reports::used(k, 0, yl.len()),
             )
         }
-        Differ::First(k) => ordered_from(mode, x, xl, y, yl, p, k, target),
-        Differ::Second(k) => reports::exchanged(ordered_from(mode, y, yl, x, xl, p, k, target)),
+        Differ::First(k) => ordered(mode, x, xl, y, yl, p, k, target),
+        Differ::Second(k) => reports::exchanged(ordered(mode, y, yl, x, xl, p, k, target)),
     }
 }
 
@@ -219,13 +152,13 @@ pub fn both(
     let a = checks::counted_exponent(x.exponent);
     let b = checks::counted_exponent(y.exponent);
     if b < a {
-        return ordered_first(mode, x, xl, y, yl, p, false, target);
+        return ordered(mode, x, xl, y, yl, p, 0, target);
     }
     if a < b {
-        return ordered_first(mode, y, yl, x, xl, p, true, target);
+        return reports::exchanged(ordered(mode, y, yl, x, xl, p, 0, target));
     }
     if x.negative == y.negative {
-        return ordered_first(mode, x, xl, y, yl, p, false, target);
+        return ordered(mode, x, xl, y, yl, p, 0, target);
     }
     unlike(mode, x, xl, y, yl, p, target)
 }

@@ -36,7 +36,7 @@ use Rattle.bridge.proofs.Answers.{sum-pos}
 use Rattle.bridge.proofs.Covered.{columns-above}
 use Rattle.descent.specs.declared.going.Verdict.the-variants.{Fixed}
 use Rattle.descent.specs.Ready.{Room}
-use Rattle.descent.specs.Course.{Course, Judged, Held, Begun, Reached, Sighted, Full, Inside, open?}
+use Rattle.descent.specs.Course.{Course, Judged, Held, Begun, Reached, Sighted, Full, Inside}
 use Rattle.descent.proofs.JudgingRange.{digits-some}
 use Rattle.descent.proofs.JudgingRows.{pair-modest}
 use Rattle.descent.proofs.GoingDown.{room-some}
@@ -158,17 +158,16 @@ module _ (p : ℕ) (pair : Pair) (first second before after : List ℕ) (w : Win
         place e m = omega arith
 
     pub read-rounds : rowOf pair n ≡ Exact → Rounds o p x y after carry 0 false n
-    unfolding open?
-    read-rounds e = full-rounds false (glance-exact p pair w n after room e refl)
+    read-rounds e = full-rounds false (glance-exact p pair w n after room e)
 
     pub inside-rounds : ((k E : ℕ) → Shows w after k E → Inside p E) → (more : Bool) → (inner? (rowOf pair n) ≡ true) × (moreOf (rowOf pair n) ≡ more) → Rounds o p x y after carry 0 more n
-    unfolding inner? moreOf open?
+    unfolding inner? moreOf
     inside-rounds inside more b = go (rowOf pair n) refl (b .0) (b .1)
       where
         go : (row : Row) → rowOf pair n ≡ row → inner? row ≡ true → moreOf row ≡ more → Rounds o p x y after carry 0 more n
         go Exact e i m = absurd (true≢false (sym i))
-        go (Plus least next most) e i m = full-rounds more (subst Tells m (glance-plus p pair w n after room inside least next most e refl))
-        go (Minus most) e i m = full-rounds more (subst Tells m (glance-minus p pair w n after room inside most e refl))
+        go (Plus least next most) e i m = full-rounds more (subst Tells m (glance-plus p pair w n after room inside least next most e))
+        go (Minus most) e i m = full-rounds more (subst Tells m (glance-minus p pair w n after room inside most e))
         go Hole e i m = absurd (true≢false (sym i))
 
 -- ---- its digits

@@ -1,6 +1,6 @@
 -- `regular::both`: the larger exponent goes first; of one exponent, like signs add and unlike signs are told apart. Assumes nothing.
 use mir.Facts.{toZ-ofZ}
-use mathlib.Core.Path.{refl}
+use Rattle.general.proofs.Exchanged.{zero-first}
 use Rattle.general.proofs.RegularLevel.{both-first, both-second, both-like, both-unlike}
 use borrow.Author.Needs.{needs}
 use Rattle.general.proofs.regular.both.Statement.{statement}
@@ -12,8 +12,8 @@ counted-exponent-requires c κs = search needs
 counted-exponent-requires-2 : tie.Need-counted-exponent-requires-2
 counted-exponent-requires-2 c κs = search needs
 
-ordered-first-requires : tie.Need-ordered-first-requires
-ordered-first-requires c κs =
+ordered-requires : tie.Need-ordered-requires
+ordered-requires c κs =
     let b = c .before .before .before .before .before .before .before .before .before in
     let a = b .args in
     let first = rw (toZ-ofZ (record { sfits = c .before .before .before .before .before .struct-told .given .1 .1 .1 .0 .1 })) at (c .before .before .before .before .counted-exponent .ensures) in
@@ -24,24 +24,30 @@ same-length : tie.Need-same-length
 same-length c = search needs
 
 returns : tie.Need-returns
-returns c = c .before .before .ordered-first .ensures .0 refl
+returns c = c .before .before .ordered .ensures
 
-ordered-first-requires-2 : tie.Need-ordered-first-requires-2
-ordered-first-requires-2 c κs =
+ordered-requires-2 : tie.Need-ordered-requires-2
+ordered-requires-2 c κs =
     let b = c .before .before .before .before .before .before .before .before .before .before in
     let a = b .args in
     let first = rw (toZ-ofZ (record { sfits = c .before .before .before .before .before .before .struct-told .given .1 .1 .1 .0 .1 })) at (c .before .before .before .before .before .counted-exponent .ensures) in
     let second = rw (toZ-ofZ (record { sfits = c .before .before .before .before .struct-told2 .given .1 .1 .1 .0 .1 })) at (c .before .before .before .counted-exponent2 .ensures) in
     both-second (a .x) (a .xl .now) (a .y) (a .yl .now) (a .p) _ (b .pre .5) (b .pre .1) (b .pre .2) (b .pre .3) (b .pre .4) _ _ first second (c .before .if2 .taken)
 
+exchanged-requires : tie.Need-exchanged-requires
+exchanged-requires c κs = search needs
+
 same-length-2 : tie.Need-same-length-2
 same-length-2 c = search needs
 
 returns-2 : tie.Need-returns-2
-returns-2 c = c .before .before .ordered-first2 .ensures .1 refl
+returns-2 c =
+    let b = c .before .before .before .before .before .before .before .before .before .before .before .before .before .before in
+    let a = b .args in
+    zero-first (a .mode) (a .p) _ _ _ _ _ _ (b .pre .5) (b .pre .4) (c .exchanged .ensures) (c .before .before .before .ordered2 .ensures)
 
-ordered-first-requires-3 : tie.Need-ordered-first-requires-3
-ordered-first-requires-3 c κs =
+ordered-requires-3 : tie.Need-ordered-requires-3
+ordered-requires-3 c κs =
     let b = c .before .before .before .before .before .before .before .before .before .before .before .before .before in
     let a = b .args in
     let first = rw (toZ-ofZ (record { sfits = c .before .before .before .before .before .before .before .before .before .struct-told .given .1 .1 .1 .0 .1 })) at (c .before .before .before .before .before .before .before .before .counted-exponent .ensures) in
@@ -52,7 +58,7 @@ same-length-3 : tie.Need-same-length-3
 same-length-3 c = search needs
 
 returns-3 : tie.Need-returns-3
-returns-3 c = c .before .before .ordered-first3 .ensures .0 refl
+returns-3 c = c .before .before .ordered3 .ensures
 
 unlike-requires : tie.Need-unlike-requires
 unlike-requires c κs =
@@ -74,13 +80,14 @@ both-spec =
     (tie.spec
     counted-exponent-requires
     counted-exponent-requires-2
-    ordered-first-requires
+    ordered-requires
     same-length
     returns
-    ordered-first-requires-2
+    ordered-requires-2
+    exchanged-requires
     same-length-2
     returns-2
-    ordered-first-requires-3
+    ordered-requires-3
     same-length-3
     returns-3
     unlike-requires

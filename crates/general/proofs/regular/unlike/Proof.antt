@@ -35,8 +35,8 @@ zero-requires c κs = search needs
 enum-known-d-2 : tie.Need-enum-known-d-2
 enum-known-d-2 c = search needs
 
-ordered-from-requires : tie.Need-ordered-from-requires
-ordered-from-requires c κs =
+ordered-requires : tie.Need-ordered-requires
+ordered-requires c κs =
     let b = c .before .before .before .before .before .before .before .before in
     let a = b .args in
     first-ready (a .x) (a .xl .now) (a .y) (a .yl .now) (a .p) _ (b .pre .1) (b .pre .0) _ (c .before .before .before .before .first-difference .ensures) _ (c .before .before .d2 .given .1)
@@ -44,8 +44,8 @@ ordered-from-requires c κs =
 enum-known-d-3 : tie.Need-enum-known-d-3
 enum-known-d-3 c = search needs
 
-ordered-from-requires-2 : tie.Need-ordered-from-requires-2
-ordered-from-requires-2 c κs =
+ordered-requires-2 : tie.Need-ordered-requires-2
+ordered-requires-2 c κs =
     let b = c .before .before .before .before .before .before .before .before in
     let a = b .args in
     second-ready (a .x) (a .xl .now) (a .y) (a .yl .now) (a .p) _ (b .pre .1) (b .pre .0) _ (c .before .before .before .before .first-difference .ensures) _ (c .before .before .d3 .given .1)
@@ -66,7 +66,7 @@ same-length-2 : tie.Need-same-length-2
 same-length-2 c = search needs
 
 returns-2 : tie.Need-returns-2
-returns-2 c = c .before .before .ordered-from .ensures
+returns-2 c = c .before .before .ordered .ensures
 
 same-length-3 : tie.Need-same-length-3
 same-length-3 c = search needs
@@ -75,7 +75,7 @@ returns-3 : tie.Need-returns-3
 returns-3 c =
     let b = c .before .before .before .before .before .before .before .before .before .before .before .before in
     let a = b .args in
-    zero-first (a .mode) (a .p) _ _ _ _ _ _ (b .pre .1) (b .pre .0 .second-regular) (c .exchanged .ensures) (c .before .before .before .ordered-from2 .ensures)
+    zero-first (a .mode) (a .p) _ _ _ _ _ _ (b .pre .1) (b .pre .0 .second-regular) (c .exchanged .ensures) (c .before .before .before .ordered2 .ensures)
 
 pub unlike-spec : {M : Type 1} → statement M
 unlike-spec =
@@ -89,9 +89,9 @@ unlike-spec =
     used-requires-2
     zero-requires
     enum-known-d-2
-    ordered-from-requires
+    ordered-requires
     enum-known-d-3
-    ordered-from-requires-2
+    ordered-requires-2
     exchanged-requires
     same-length
     returns

@@ -1,9 +1,9 @@
--- `descent::front::lies_inside` is right by its test. Assumes nothing.
+-- `descent::half::lies_inside` is right by its test. Assumes nothing.
 use lib.Pow.{pow-pos}
 use Rattle.descent.proofs.Inside.{limb-inside}
 use borrow.Author.Needs.{needs}
-use Rattle.descent.proofs.front.lies_inside.Statement.{statement}
-use Rattle.descent.proofs.front.lies_inside.Tie as tie
+use Rattle.descent.proofs.half.lies_inside.Statement.{statement}
+use Rattle.descent.proofs.half.lies_inside.Tie as tie
 
 half-of-requires : tie.Need-half-of-requires
 half-of-requires c κs = search needs

@@ -1,12 +1,12 @@
--- `descent::front::half_of` is right since 1 moved up by less than 64 loses no bit. Assumes nothing.
+-- `descent::half::half_of` is right since 1 moved up by less than 64 loses no bit. Assumes nothing.
 use mathlib.Core.Path.{_∙_}
 use native.Mathlib.Nat.{one-mul}
 use native.Mathlib.Omega.{arith}
 use lib.Dec.{lit<}
 use lib.Pow.{shl-exact}
 use borrow.Author.Needs.{needs}
-use Rattle.descent.proofs.front.half_of.Statement.{statement}
-use Rattle.descent.proofs.front.half_of.Tie as tie
+use Rattle.descent.proofs.half.half_of.Statement.{statement}
+use Rattle.descent.proofs.half.half_of.Tie as tie
 
 sub-result : tie.Need-sub-result
 sub-result c = search needs
