@@ -1,6 +1,6 @@
 -- Each return of the code, as a case of the order as it is found. Assumes nothing.
-use mathlib.Core.Path.{_≡_, sym, ap, _∙_}
-use mathlib.Core.Bool.{Bool, true, false, _&&_, Bool·beq}
+use mathlib.Core.Path.{_≡_, sym, ap, _∙_, refl}
+use mathlib.Core.Bool.{Bool, true, false, _&&_, Bool·beq, cond}
 use mathlib.Core.List.{List, []}
 use Prim.Native.Nat.{ℕ, _^_, _≤_, _<_, compare, Ordering, Ordering·lt, Ordering·eq, Ordering·gt}
 use native.Mathlib.Nat.{le-antisymm}
@@ -17,10 +17,16 @@ use Rattle.rounding.proofs.Order.{compare-at}
 use Rattle.order.specs.declared.Order.{Order}
 use Rattle.order.specs.declared.Order.the-variants.{Less, Equal, Greater}
 use Rattle.order.specs.Order.{orderOf, caseOf, comparedOf}
-use Rattle.order.specs.Steps.{orElse, alignedOrder, regularOrder, sizeOrder, apartOrder, signedOrder}
+use Rattle.order.specs.Steps.{orElse, alignedOrder, regularOrder, sizeOrder, apartOrder, reversed, turnedCase, signedOrder}
 use Rattle.order.proofs.Sizes.{order-found}
 
-same-negative : (x y : Operand) → Bool·beq (x .negative) (y .negative) ≡ true → x .negative ≡ true → signedOrder x y ≡ sizeOrder y x
+case-turned : (o : Ordering) → turnedCase (caseOf o) ≡ caseOf (reversed o)
+unfolding turnedCase caseOf reversed
+case-turned Ordering·lt = refl
+case-turned Ordering·eq = refl
+case-turned Ordering·gt = refl
+
+same-negative : (x y : Operand) → Bool·beq (x .negative) (y .negative) ≡ true → x .negative ≡ true → signedOrder x y ≡ reversed (sizeOrder x y)
 unfolding signedOrder
 same-negative x y h n = rw (h, n)
 
@@ -83,13 +89,13 @@ module _ (x y : Number) (xl yl : List ℕ) where
   unfolding signedOrder apartOrder operandOf
   signs-apart h e = e ∙ simp h
 
-  pub both-negative : {r : Order} → Bool·beq (x .negative) (y .negative) ≡ true → x .negative ≡ true → r ≡ caseOf (sizeOrder (operandOf y yl) (operandOf x xl)) → r ≡ caseOf (signedOrder (operandOf x xl) (operandOf y yl))
+  pub signs-alike : {r s : Order} → Bool·beq (x .negative) (y .negative) ≡ true → r ≡ cond (x .negative) (turnedCase s) s → s ≡ caseOf (sizeOrder (operandOf x xl) (operandOf y yl)) → r ≡ caseOf (signedOrder (operandOf x xl) (operandOf y yl))
   unfolding operandOf
-  both-negative h n e = e ∙ sym (ap caseOf (same-negative (operandOf x xl) (operandOf y yl) h n))
-
-  pub both-positive : {r : Order} → Bool·beq (x .negative) (y .negative) ≡ true → x .negative ≡ false → r ≡ caseOf (sizeOrder (operandOf x xl) (operandOf y yl)) → r ≡ caseOf (signedOrder (operandOf x xl) (operandOf y yl))
-  unfolding operandOf
-  both-positive h n e = e ∙ sym (ap caseOf (same-positive (operandOf x xl) (operandOf y yl) h n))
+  signs-alike {r} {s} h e f = e ∙ go (x .negative) refl
+    where
+      go : (b : Bool) → x .negative ≡ b → cond b (turnedCase s) s ≡ caseOf (signedOrder (operandOf x xl) (operandOf y yl))
+      go true n = ap turnedCase f ∙ case-turned (sizeOrder (operandOf x xl) (operandOf y yl)) ∙ sym (ap caseOf (same-negative (operandOf x xl) (operandOf y yl) h n))
+      go false n = f ∙ sym (ap caseOf (same-positive (operandOf x xl) (operandOf y yl) h n))
 
 -- ---- the answer of a comparison
 

@@ -16,20 +16,8 @@ use Rattle.rounding.proofs.Order.{Cmp, cmp, compare-at}
 use Rattle.rounding.proofs.Zeros.{share-zero}
 use Rattle.order.specs.Order.{orderOf, caseOf, numberOf, signOf, comparedOf}
 use Rattle.order.specs.declared.Order.the-variants.{Equal}
-
-unfoldable pub reversed : Ordering → Ordering
-reversed Ordering·lt = Ordering·gt
-reversed Ordering·eq = Ordering·eq
-reversed Ordering·gt = Ordering·lt
-
-compare-reversed : (a b : ℕ) → compare b a ≡ reversed (compare a b)
-unfolding reversed
-compare-reversed a b = go (compare a b) (cmp a b)
-  where
-    go : (o : Ordering) → Cmp o a b → compare b a ≡ reversed o
-    go Ordering·lt h = compare-at Ordering·gt b a h
-    go Ordering·eq h = compare-at Ordering·eq b a (sym h)
-    go Ordering·gt h = compare-at Ordering·lt b a h
+use Rattle.order.specs.Steps.{reversed}
+use Rattle.order.proofs.Sizes.{compare-reversed}
 
 -- document 01's number of a reversed order is the number with the other sign
 pub reversed-number : (o : Ordering) → numberOf (caseOf (reversed o)) ≡ negℤ (numberOf (caseOf o))

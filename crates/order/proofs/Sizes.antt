@@ -15,7 +15,7 @@ use Rattle.numbers.proofs.Digits.{digits-and-spare, mantissa-lt, mantissa-ge, p
 use Rattle.rounding.specs.Sum.{scale, amount, share}
 use Rattle.rounding.proofs.Order.{le-or-lt, Cmp, cmp, compare-at}
 use Rattle.order.specs.Order.{orderOf}
-use Rattle.order.specs.Steps.{orElse, alignedOrder, regularOrder, sizeOrder, apartOrder, signedOrder}
+use Rattle.order.specs.Steps.{orElse, alignedOrder, regularOrder, sizeOrder, apartOrder, reversed, signedOrder}
 
 -- ---- comparing in another unit
 
@@ -175,14 +175,23 @@ scale-second x y r = go (x .isZero) (y .isZero) (lastWeight x) (lastWeight y) r
     go false true m n r = absurd (true≢false r)
     go false false m n r = omega arith
 
+pub compare-reversed : (a b : ℕ) → compare b a ≡ reversed (compare a b)
+unfolding reversed
+compare-reversed a b = go (compare a b) (cmp a b)
+  where
+    go : (o : Ordering) → Cmp o a b → compare b a ≡ reversed o
+    go Ordering·lt h = compare-at Ordering·gt b a h
+    go Ordering·eq h = compare-at Ordering·eq b a (sym h)
+    go Ordering·gt h = compare-at Ordering·lt b a h
+
 module _ (x y : Operand) (g : WellFormed x) (k : WellFormed y) where
   two-positive : x .negative ≡ false → y .negative ≡ false → orderOf x y ≡ sizeOrder x y
   unfolding orderOf share
   two-positive h i = simp (h, i, add-zero, zero-add) (size-order (scale x y) x y g k (scale-first x y) (scale-second x y))
 
-  two-negative : x .negative ≡ true → y .negative ≡ true → orderOf x y ≡ sizeOrder y x
+  two-negative : x .negative ≡ true → y .negative ≡ true → orderOf x y ≡ reversed (sizeOrder x y)
   unfolding orderOf share
-  two-negative h i = simp (h, i, add-zero, zero-add) (size-order (scale x y) y x k g (scale-second x y) (scale-first x y))
+  two-negative h i = simp (h, i, add-zero, zero-add) (compare-reversed (amount (scale x y) x) (amount (scale x y) y) ∙ ap reversed (size-order (scale x y) x y g k (scale-first x y) (scale-second x y)))
 
   above-zero : x .negative ≡ false → y .negative ≡ true → (b : Bool) → x .isZero && y .isZero ≡ b → orderOf x y ≡ cond b Ordering·eq Ordering·gt
   unfolding orderOf share
@@ -199,7 +208,7 @@ module _ (x y : Operand) (g : WellFormed x) (k : WellFormed y) where
   unfolding signedOrder apartOrder
   order-found = go (x .negative) (y .negative) refl refl
     where
-      go : (a b : Bool) → x .negative ≡ a → y .negative ≡ b → orderOf x y ≡ cond (Bool·beq a b) (cond a (sizeOrder y x) (sizeOrder x y)) (cond (x .isZero && y .isZero) Ordering·eq (cond a Ordering·lt Ordering·gt))
+      go : (a b : Bool) → x .negative ≡ a → y .negative ≡ b → orderOf x y ≡ cond (Bool·beq a b) (cond a (reversed (sizeOrder x y)) (sizeOrder x y)) (cond (x .isZero && y .isZero) Ordering·eq (cond a Ordering·lt Ordering·gt))
       go false false h i = two-positive h i
       go true true h i = two-negative h i
       go false true h i = above-zero h i (x .isZero && y .isZero) refl

@@ -6,6 +6,8 @@ use lib.Dec.{ltb}
 use lib.ListN.{length, getD}
 use Rattle.limb.specs.Value.{valueOf}
 use Rattle.numbers.specs.Operand.{Operand}
+use Rattle.order.specs.declared.Order.{Order}
+use Rattle.order.specs.declared.Order.the-variants.{Less, Equal, Greater}
 
 -- limb i from the top; below the lowest stands 0
 unfoldable pub fromTop : List ℕ → ℕ → ℕ
@@ -33,6 +35,17 @@ sizeOrder x y = cond (x .isZero) (cond (y .isZero) Ordering·eq Ordering·lt) (c
 unfoldable pub apartOrder : Operand → Operand → Ordering
 apartOrder x y = cond (x .isZero && y .isZero) Ordering·eq (cond (x .negative) Ordering·lt Ordering·gt)
 
+-- the order of the same two, the other way round
+unfoldable pub reversed : Ordering → Ordering
+reversed Ordering·lt = Ordering·gt
+reversed Ordering·eq = Ordering·eq
+reversed Ordering·gt = Ordering·lt
+
+unfoldable pub turnedCase : Order → Order
+turnedCase Less = Greater
+turnedCase Equal = Equal
+turnedCase Greater = Less
+
 -- of any two
 unfoldable pub signedOrder : Operand → Operand → Ordering
-signedOrder x y = cond (Bool·beq (x .negative) (y .negative)) (cond (x .negative) (sizeOrder y x) (sizeOrder x y)) (apartOrder x y)
+signedOrder x y = cond (Bool·beq (x .negative) (y .negative)) (cond (x .negative) (reversed (sizeOrder x y)) (sizeOrder x y)) (apartOrder x y)

@@ -2,12 +2,13 @@
 use checks::Number;
 use checks::Refusal;
 ghost use mathlib.Core.Path.{_≡_};
+ghost use mathlib.Core.Bool.{cond};
 ghost use mathlib.Core.List.{[]};
 ghost use Prim.Native.Nat.{_+_, _≤_};
 ghost use lib.ListN.{length};
 ghost use Rattle.checks.specs.Number.{operandOf};
 ghost use Rattle.order.specs.Order.{caseOf, comparedOf};
-ghost use Rattle.order.specs.Steps.{fromTop, alignedOrder, regularOrder, sizeOrder, apartOrder, signedOrder};
+ghost use Rattle.order.specs.Steps.{fromTop, alignedOrder, regularOrder, sizeOrder, apartOrder, signedOrder, turnedCase};
 
 pub enum Order {
     Less,
@@ -139,6 +140,24 @@ fn order_apart(x: Number, y: Number) -> Order
     Order::Greater
 }
 
+// The order of the same two, the other way round.
+fn turned(order: Order) -> Order
+    ensures { λ r. ⌜ r ≡ turnedCase order ⌝ }
+{
+    match order {
+        Order::Less => Order::Greater,
+        Order::Equal => Order::Equal,
+        Order::Greater => Order::Less,
+    }
+}
+
+// The order, or that one where so said.
+fn turned_if(turn: bool, order: Order) -> Order
+    ensures { λ r. ⌜ r ≡ cond turn (turnedCase order) order ⌝ }
+{
+    if turn { turned(order) } else { order }
+}
+
 // Two numbers of one sign: of two negative ones the larger in size is below.
 fn order_accepted(x: Number, xl: &[u64], y: Number, yl: &[u64]) -> Order
     ensures { λ r. ⌜ r ≡ caseOf (signedOrder (operandOf x (now (xl .entry))) (operandOf y (now (yl .entry)))) ⌝ }
@@ -146,10 +165,7 @@ fn order_accepted(x: Number, xl: &[u64], y: Number, yl: &[u64]) -> Order
     if x.negative != y.negative {
         return order_apart(x, y);
     }
-    if x.negative {
-        return order_sizes(y, yl, x, xl);
-    }
-    order_sizes(x, xl, y, yl)
+    turned_if(x.negative, order_sizes(x, xl, y, yl))
 }
 
 // The order of two numbers, once refusals 2 to 5 are checked.
