@@ -1,4 +1,5 @@
 // Refusals 1 to 5 of a call: one in which every test holds is told at once, any other by the tests in their order.
+// The second way has numbers and slices of its own, so that on the first they need not stand in memory.
 use checks::Number;
 use checks::Refusal;
 ghost use mathlib.Core.Path.{_≡_};
