@@ -1,4 +1,5 @@
 // Refusals 1 to 5 of a call: one in which every test holds is told at once, any other by the tests in their order.
+// The second way has numbers and slices of its own, so that on the first they need not stand in memory.
 use checks::Number;
 use checks::Refusal;
 ghost use mathlib.Core.Path.{_≡_};
@@ -104,7 +105,15 @@ pub fn check_pair(
     if pair_passes(mode, x, xl, y, yl, p, n) {
         return Refusal { rule: 0, place: 0 };
     }
-    refusals::refuse_pair(mode, x, xl, y, yl, p, n)
+    refusals::refuse_pair(
+        mode,
+        checks::copied(x),
+        &xl[..],
+        checks::copied(y),
+        &yl[..],
+        p,
+        n,
+    )
 }
 
 // The same of one operand and a target.
@@ -114,7 +123,8 @@ pub fn check_single(mode: u8, x: Number, xl: &[u64], p: u64, n: usize) -> Refusa
     if single_passes(mode, x, xl, p, n) {
         return Refusal { rule: 0, place: 0 };
     }
-    refusals::refuse(mode, x, xl, x, xl, p, n)
+    let alike = checks::copied(x);
+    refusals::refuse(mode, alike, xl, alike, xl, p, n)
 }
 
 // Refusals 2 to 5 of two operands, without a mode or a target.
@@ -124,7 +134,7 @@ pub fn check_compared(x: Number, xl: &[u64], y: Number, yl: &[u64]) -> Refusal
     if both_pass(x, xl, y, yl) {
         return Refusal { rule: 0, place: 0 };
     }
-    refusals::refuse_operands(0, x, xl, y, yl)
+    refusals::refuse_operands(0, checks::copied(x), &xl[..], checks::copied(y), &yl[..])
 }
 
 // Refusals 1 to 5 of one operand under a mode, without a target.
@@ -134,7 +144,8 @@ pub fn check_converted(mode: u8, x: Number, xl: &[u64]) -> Refusal
     if one_passes(mode, x, xl) {
         return Refusal { rule: 0, place: 0 };
     }
-    refusals::refuse_operands(mode, x, xl, x, xl)
+    let alike = checks::copied(x);
+    refusals::refuse_operands(mode, alike, xl, alike, xl)
 }
 
 // Refusals 2 to 5 of one operand.
@@ -144,5 +155,6 @@ pub fn check_alone(x: Number, xl: &[u64]) -> Refusal
     if passes(x, xl) {
         return Refusal { rule: 0, place: 0 };
     }
-    refusals::refuse_operands(0, x, xl, x, xl)
+    let alike = checks::copied(x);
+    refusals::refuse_operands(0, alike, xl, alike, xl)
 }

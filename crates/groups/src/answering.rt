@@ -19,7 +19,14 @@ ghost use Rattle.desklines.specs.Answer.{longestAnswer};
 ghost use Rattle.desklines.specs.Written.{mostLimbs, NumberHeld, AnswerTold, Answers};
 
 // The sum or the difference.
-fn sum(order: Order, x: Number, xl: &[u64], y: Number, yl: &[u64], target: &mut [u64]) -> Sum
+fn sum<'a>(
+    order: Order,
+    x: Number,
+    xl: &'a [u64],
+    y: Number,
+    yl: &'a [u64],
+    target: &mut [u64],
+) -> Sum
     ensures { λ r. ⌜ Summed (operationOf (order .subtracts)) (order .mode) x (now (xl .entry)) y (now (yl .entry)) (order .precision) (now (target .entry)) (now (target .exit)) r ⌝ }
 {
     let mode = order.mode;
@@ -31,12 +38,12 @@ fn sum(order: Order, x: Number, xl: &[u64], y: Number, yl: &[u64], target: &mut 
 }
 
 // Three lines are accepted: their sum, in as many limbs as its precision takes.
-fn answer_sum(
+fn answer_sum<'a>(
     order: Order,
     x: Number,
-    xl: &[u64],
+    xl: &'a [u64],
     y: Number,
-    yl: &[u64],
+    yl: &'a [u64],
     target: &mut [u64],
     out: &mut [u8],
 ) -> usize
@@ -49,11 +56,11 @@ fn answer_sum(
 }
 
 // Two numbers are accepted: the desk line.
-fn answer_order(
+fn answer_order<'a>(
     x: Number,
-    xl: &[u64],
+    xl: &'a [u64],
     y: Number,
-    yl: &[u64],
+    yl: &'a [u64],
     third: &[u8],
     target: &mut [u64],
     out: &mut [u8],

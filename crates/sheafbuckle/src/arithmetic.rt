@@ -1,11 +1,9 @@
 // Add, subtract, re-round.
 use checks::Number;
-use checks::Refusal;
 use plain::PlainNumber;
 use plain::PlainSum;
 use plain::number_from;
 use plain::plain_sum;
-use reports::Sum;
 ghost use mathlib.Core.Path.{_≡_};
 ghost use mathlib.Core.Bool.{true, false, cond};
 ghost use Rattle.checks.specs.Number.{turnedNumber};
@@ -26,78 +24,53 @@ fn turned_if(turn: bool, x: Number) -> Number
     }
 }
 
-// The same sum, field by field: what the kernel's sum has on its way need not be copied whole.
-fn copied_sum(s: Sum) -> Sum
-    ensures { λ r. ⌜ r ≡ s ⌝ }
-{
-    let number = s.number;
-    let kind = number.kind;
-    let refusal = s.refusal;
-    Sum {
-        depth: s.depth,
-        number: Number {
-            negative: number.negative,
-            kind: kind,
-            precision: number.precision,
-            exponent: number.exponent,
-        },
-        first: s.first,
-        ternary: s.ternary,
-        second: s.second,
-        refusal: Refusal {
-            rule: refusal.rule,
-            place: refusal.place,
-        },
-    }
-}
-
 // x + y, or x - y where so said, rounded to p digits.
-fn sum_turned(
+fn sum_turned<'a>(
     turn: bool,
     mode: u8,
     x: PlainNumber,
-    xl: &[u64],
+    xl: &'a [u64],
     y: PlainNumber,
-    yl: &[u64],
+    yl: &'a [u64],
     p: u64,
     target: &mut [u64],
-) -> Sum
-    ensures { λ r. ⌜ (turn ≡ false → Summed plus mode (numberFrom x) (now (xl .entry)) (numberFrom y) (now (yl .entry)) p (now (target .entry)) (now (target .exit)) r) × (turn ≡ true → Summed minus mode (numberFrom x) (now (xl .entry)) (numberFrom y) (now (yl .entry)) p (now (target .entry)) (now (target .exit)) r) ⌝ }
+) -> PlainSum
+    ensures { λ r. ⌜ (turn ≡ false → Summed plus mode (numberFrom x) (now (xl .entry)) (numberFrom y) (now (yl .entry)) p (now (target .entry)) (now (target .exit)) (sumFrom r)) × (turn ≡ true → Summed minus mode (numberFrom x) (now (xl .entry)) (numberFrom y) (now (yl .entry)) p (now (target .entry)) (now (target .exit)) (sumFrom r)) ⌝ }
 {
     let second = turned_if(turn, number_from(y));
-    copied_sum(sums::add(mode, number_from(x), xl, second, yl, p, target))
+    plain_sum(sums::add(mode, number_from(x), xl, second, yl, p, target))
 }
 
 // x + y, rounded to p digits.
 #[no_mangle]
-pub extern "C" fn sheafbuckle_add(
+pub extern "C" fn sheafbuckle_add<'a>(
     mode: u8,
     x: PlainNumber,
-    xl: &[u64],
+    xl: &'a [u64],
     y: PlainNumber,
-    yl: &[u64],
+    yl: &'a [u64],
     p: u64,
     target: &mut [u64],
 ) -> PlainSum
     ensures { λ r. ⌜ Summed plus mode (numberFrom x) (now (xl .entry)) (numberFrom y) (now (yl .entry)) p (now (target .entry)) (now (target .exit)) (sumFrom r) ⌝ }
 {
-    plain_sum(sum_turned(false, mode, x, xl, y, yl, p, target))
+    sum_turned(false, mode, x, xl, y, yl, p, target)
 }
 
 // x - y, rounded to p digits.
 #[no_mangle]
-pub extern "C" fn sheafbuckle_subtract(
+pub extern "C" fn sheafbuckle_subtract<'a>(
     mode: u8,
     x: PlainNumber,
-    xl: &[u64],
+    xl: &'a [u64],
     y: PlainNumber,
-    yl: &[u64],
+    yl: &'a [u64],
     p: u64,
     target: &mut [u64],
 ) -> PlainSum
     ensures { λ r. ⌜ Summed minus mode (numberFrom x) (now (xl .entry)) (numberFrom y) (now (yl .entry)) p (now (target .entry)) (now (target .exit)) (sumFrom r) ⌝ }
 {
-    plain_sum(sum_turned(true, mode, x, xl, y, yl, p, target))
+    sum_turned(true, mode, x, xl, y, yl, p, target)
 }
 
 // x alone, rounded to p digits.

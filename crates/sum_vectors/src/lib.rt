@@ -48,7 +48,7 @@ fn answer(s: Sum, target: &[u64], out: &mut [u8; 4096]) -> usize
     vectors::put_end(out, f)
 }
 
-fn sum(asked: Asked, xl: &[u64], yl: &[u64], target: &mut [u64]) -> Sum {
+fn sum<'a>(asked: Asked, xl: &'a [u64], yl: &'a [u64], target: &mut [u64]) -> Sum {
     let x = asked.x;
     let y = asked.y;
     let mode = asked.mode;
@@ -63,11 +63,11 @@ fn sum(asked: Asked, xl: &[u64], yl: &[u64], target: &mut [u64]) -> Sum {
 }
 
 // The sum into the target, and its answer.
-fn run_sum(
+fn run_sum<'a>(
     asked: Asked,
-    xl: &[u64; 80],
+    xl: &'a [u64; 80],
     n: usize,
-    yl: &[u64; 80],
+    yl: &'a [u64; 80],
     m: usize,
     target: &mut [u64],
     out: &mut [u8; 4096],
@@ -82,11 +82,11 @@ fn run_sum(
 }
 
 // The same with the first k limbs of the target; no answer where there are not so many.
-fn run_part(
+fn run_part<'a>(
     asked: Asked,
-    xl: &[u64; 80],
+    xl: &'a [u64; 80],
     n: usize,
-    yl: &[u64; 80],
+    yl: &'a [u64; 80],
     m: usize,
     target: &mut [u64],
     k: usize,

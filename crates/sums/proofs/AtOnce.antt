@@ -38,14 +38,6 @@ narrow-told p {a} {b} e f h = let t = go (leb p 62) a b h in (leb-true p 62 (t .
     go true true b h = absurd (true≢false (sym h))
     go false a b h = absurd (true≢false (sym h))
 
-pub regular-told : {a b u v : Bool} → a ≡ u → b ≡ v → (not a && not b) ≡ true → (u ≡ false) × (v ≡ false)
-regular-told {a} {b} e f h = let t = go a b h in (sym e ∙ t .0, sym f ∙ t .1)
-  where
-    go : (a b : Bool) → (not a && not b) ≡ true → (a ≡ false) × (b ≡ false)
-    go false false h = (refl, refl)
-    go false true h = absurd (true≢false (sym h))
-    go true b h = absurd (true≢false (sym h))
-
 -- so few digits take one limb
 pub one-limb : (p n : ℕ) → Room p n → p ≤ 62 → n ≡ 1
 unfolding limbsFor

@@ -39,37 +39,6 @@ fn summed(mode: u8, x: Number, xl: &[u64], y: Number, yl: &[u64], p: u64, target
     general::both(mode, x, xl, y, yl, p, target)
 }
 
-// The same over copies of the numbers: a quicker way before it has none of them in memory.
-fn summed_apart(
-    mode: u8,
-    x: Number,
-    xl: &[u64],
-    y: Number,
-    yl: &[u64],
-    p: u64,
-    target: &mut [u64],
-) -> Sum
-    requires { ⌜ (mode ≤ 3) × WellFormed (operandOf x (now xl)) × WellFormed (operandOf y (now yl)) × Room p (length (now target)) ⌝ }
-    ensures { λ r. ⌜ Reported plus (modeOf mode) p (operandOf x (now (xl .entry))) (operandOf y (now (yl .entry))) (now (target .exit)) r ⌝ }
-{
-    summed(
-        mode,
-        checks::copied(x),
-        xl,
-        checks::copied(y),
-        yl,
-        p,
-        target,
-    )
-}
-
-// Whether two numbers are regular.
-fn is_regular(x: Number, y: Number) -> bool
-    ensures { λ r. ⌜ (r ≡ true → (isZeroKind (x .kind) ≡ false) × (isZeroKind (y .kind) ≡ false)) ⌝ }
-{
-    !checks::is_zero(x) & !checks::is_zero(y)
-}
-
 // Whether two numbers are regular, and the digits are so few that their first column may tell all.
 fn is_narrow(p: u64, x: Number, y: Number) -> bool
     ensures { λ r. ⌜ (r ≡ true → (p ≤ 62) × (isZeroKind (x .kind) ≡ false) × (isZeroKind (y .kind) ≡ false)) ⌝ }
@@ -78,12 +47,13 @@ fn is_narrow(p: u64, x: Number, y: Number) -> bool
 }
 
 // x + y, rounded to p digits: at once where the first column fixes it, or the columns that fill the target.
-pub fn add(
+// Any other way has numbers and slices of its own, so that these need not stand in memory.
+pub fn add<'a>(
     mode: u8,
     x: Number,
-    xl: &[u64],
+    xl: &'a [u64],
     y: Number,
-    yl: &[u64],
+    yl: &'a [u64],
     p: u64,
     target: &mut [u64],
 ) -> Sum
@@ -102,31 +72,36 @@ pub fn add(
             return reports::answered(placed, sight.negative, p, 1, sight.first, sight.second);
         }
     }
-    if is_regular(x, y) {
-        let told = wide::attempt(mode, x, xl, y, yl, p, target);
-        if told.open {
-            return summed_apart(mode, x, xl, y, yl, p, target);
-        }
-        let placed = told.placed;
-        return reports::answered(
-            placed,
-            told.negative,
+    let told = wide::attempt(mode, x, xl, y, yl, p, target);
+    if told.open {
+        return summed(
+            mode,
+            checks::copied(x),
+            &xl[..],
+            checks::copied(y),
+            &yl[..],
             p,
-            told.depth,
-            told.first,
-            told.second,
+            target,
         );
     }
-    summed_apart(mode, x, xl, y, yl, p, target)
+    let placed = told.placed;
+    reports::answered(
+        placed,
+        told.negative,
+        p,
+        told.depth,
+        told.first,
+        told.second,
+    )
 }
 
 // x - y, rounded to p digits: the sum with the second sign turned.
-pub fn subtract(
+pub fn subtract<'a>(
     mode: u8,
     x: Number,
-    xl: &[u64],
+    xl: &'a [u64],
     y: Number,
-    yl: &[u64],
+    yl: &'a [u64],
     p: u64,
     target: &mut [u64],
 ) -> Sum

@@ -15,12 +15,15 @@ returns : tie.Need-returns
 unfolding accepted
 returns c = sym (alone-passes _ (c .before .passes .ensures (c .if1 .taken)))
 
+copied-requires : tie.Need-copied-requires
+copied-requires c κs = search needs
+
 refuse-operands-requires : tie.Need-refuse-operands-requires
 refuse-operands-requires c κs = search needs
 
 returns-2 : tie.Need-returns-2
 unfolding operandOf
-returns-2 c = c .refuse-operands .ensures ∙ pair-alone _
+returns-2 c = rw (c .before .copied .ensures) at (c .refuse-operands .ensures) ∙ pair-alone _
 
 pub check-alone-spec : {M : Type 1} → statement M
-check-alone-spec = tie.close (tie.spec passes-requires returns refuse-operands-requires returns-2)
+check-alone-spec = tie.close (tie.spec passes-requires returns copied-requires refuse-operands-requires returns-2)

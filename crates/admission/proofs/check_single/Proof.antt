@@ -13,11 +13,14 @@ returns : tie.Need-returns
 unfolding accepted
 returns c = sym (c .before .single-passes .ensures (c .if1 .taken))
 
+copied-requires : tie.Need-copied-requires
+copied-requires c κs = search needs
+
 refuse-requires : tie.Need-refuse-requires
 refuse-requires c κs = search needs
 
 returns-2 : tie.Need-returns-2
-returns-2 c = c .refuse .ensures ∙ pair-single _ _ _ _
+returns-2 c = rw (c .before .copied .ensures) at (c .refuse .ensures) ∙ pair-single _ _ _ _
 
 pub check-single-spec : {M : Type 1} → statement M
-check-single-spec = tie.close (tie.spec single-passes-requires returns refuse-requires returns-2)
+check-single-spec = tie.close (tie.spec single-passes-requires returns copied-requires refuse-requires returns-2)

@@ -7,15 +7,12 @@ use Rattle.sheafbuckle.proofs.arithmetic.sheafbuckle_add.Tie as tie
 sum-turned-requires : tie.Need-sum-turned-requires
 sum-turned-requires c κs = search needs
 
-plain-sum-requires : tie.Need-plain-sum-requires
-plain-sum-requires c κs = search needs
-
 same-length : tie.Need-same-length
 same-length c = search needs
 
 returns : tie.Need-returns
-returns c = rw (c .plain-sum .ensures) (c .before .before .before .sum-turned .ensures .0 refl)
+returns c = c .before .before .sum-turned .ensures .0 refl
 
 pub sheafbuckle-add-spec : {M : Type 1} → statement M
 sheafbuckle-add-spec =
-    tie.close (tie.spec sum-turned-requires plain-sum-requires same-length returns)
+    tie.close (tie.spec sum-turned-requires same-length returns)

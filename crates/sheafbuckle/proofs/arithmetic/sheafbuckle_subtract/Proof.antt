@@ -7,15 +7,12 @@ use Rattle.sheafbuckle.proofs.arithmetic.sheafbuckle_subtract.Tie as ti
 sum-turned-requires : tie.Need-sum-turned-requires
 sum-turned-requires c κs = search needs
 
-plain-sum-requires : tie.Need-plain-sum-requires
-plain-sum-requires c κs = search needs
-
 same-length : tie.Need-same-length
 same-length c = search needs
 
 returns : tie.Need-returns
-returns c = rw (c .plain-sum .ensures) (c .before .before .before .sum-turned .ensures .1 refl)
+returns c = c .before .before .sum-turned .ensures .1 refl
 
 pub sheafbuckle-subtract-spec : {M : Type 1} → statement M
 sheafbuckle-subtract-spec =
-    tie.close (tie.spec sum-turned-requires plain-sum-requires same-length returns)
+    tie.close (tie.spec sum-turned-requires same-length returns)

@@ -16,8 +16,8 @@ number-from-requires-2 c κs = search needs
 add-requires : tie.Need-add-requires
 add-requires c κs = search needs
 
-copied-sum-requires : tie.Need-copied-sum-requires
-copied-sum-requires c κs = search needs
+plain-sum-requires : tie.Need-plain-sum-requires
+plain-sum-requires c κs = search needs
 
 same-length : tie.Need-same-length
 same-length c = search needs
@@ -27,7 +27,7 @@ returns c =
     let k = c .before .before .before in
     let a = k .before .before in
     let b = a .before in
-    summed-either (b .before .before .before .before .before .args .turn) _ _ _ _ _ _ _ _ _ _ _ _ _ (a .number-from2 .ensures) (b .before .number-from .ensures) (b .turned-if .ensures) (c .copied-sum .ensures) (k .add .ensures)
+    summed-either (b .before .before .before .before .before .args .turn) _ _ _ _ _ _ _ _ _ _ _ _ _ (a .number-from2 .ensures) (b .before .number-from .ensures) (b .turned-if .ensures) (c .plain-sum .ensures) (k .add .ensures)
 
 pub sum-turned-spec : {M : Type 1} → statement M
 sum-turned-spec =
@@ -37,6 +37,6 @@ sum-turned-spec =
     turned-if-requires
     number-from-requires-2
     add-requires
-    copied-sum-requires
+    plain-sum-requires
     same-length
     returns)

@@ -5,7 +5,7 @@ use native.Mathlib.Omega.{arith}
 use borrow.Author.Needs.{needs}
 use borrow.Author.Tests.{not-true}
 use Rattle.descent.specs.Ready.{Room}
-use Rattle.sums.proofs.AtOnce.{one-limb, looked-reported, attempted-reported}
+use Rattle.sums.proofs.AtOnce.{one-limb, looked-reported, attempted-reported, copies-ready, copies-reported}
 use Rattle.sums.proofs.Entries.{kind-told, pair-ready, pair-refused, pair-reported}
 use Rattle.sums.proofs.entry.add.Statement.{statement}
 use Rattle.sums.proofs.entry.add.Tie as tie
@@ -47,25 +47,29 @@ returns-2 c =
     pair-reported _ _ _ _ _ _ _ _ (c .before .before .before .before .before .before .before .before .before .before .check-pair .ensures) (c .before .before .before .before .before .before .before .before .if1 .left)
     (looked-reported _ _ _ _ (c .before .before .before .before .before .look .result) (c .before .before .before .before .before .before .before .before .before .before .before .before .before .before .args .target .now) (g .3) (t .0) (c .before .before .before .before .before .look .ensures (not-true _ (c .before .before .if3 .taken))) (c .answered .ensures))
 
-is-regular-requires : tie.Need-is-regular-requires
-is-regular-requires c κs = search needs
-
 attempt-requires : tie.Need-attempt-requires
 attempt-requires c κs =
-    let g = pair-ready _ _ _ _ _ _ (c .before .before .before .before .before .before .before .before .before .before .before .args .target .now) _ (c .before .before .before .before .before .before .before .check-pair .ensures) (c .before .before .before .before .before .if1 .left) (λ i. c .before .before .before .before .before .before .before .before .before .before .shared-slice-known .given i .fits) (λ i. c .before .before .before .before .before .before .before .before .before .shared-slice-known2 .given i .fits) in
-    let t = c .before .before .is-regular .ensures (c .before .if4 .taken) in
-    (g .1, kind-told _ _ refl (t .0), g .2, kind-told _ _ refl (t .1), g .3)
+    let g = pair-ready _ _ _ _ _ _ (c .before .before .before .before .before .before .before .before .before .args .target .now) _ (c .before .before .before .before .before .check-pair .ensures) (c .before .before .before .if1 .left) (λ i. c .before .before .before .before .before .before .before .before .shared-slice-known .given i .fits) (λ i. c .before .before .before .before .before .before .before .shared-slice-known2 .given i .fits) in
+    (g .1, g .2, g .3)
 
-summed-apart-requires : tie.Need-summed-apart-requires
-summed-apart-requires c κs =
+copied-requires : tie.Need-copied-requires
+copied-requires c κs = search needs
+
+copied-requires-2 : tie.Need-copied-requires-2
+copied-requires-2 c κs = search needs
+
+summed-requires : tie.Need-summed-requires
+summed-requires c κs =
     let g = pair-ready _ _ _ _ _ _ (c .before .before .before .before .before .before .before .before .before .before .before .before .before .before .before .before .args .target .now) _ (c .before .before .before .before .before .before .before .before .before .before .before .before .check-pair .ensures) (c .before .before .before .before .before .before .before .before .before .before .if1 .left) (λ i. c .before .before .before .before .before .before .before .before .before .before .before .before .before .before .before .shared-slice-known .given i .fits) (λ i. c .before .before .before .before .before .before .before .before .before .before .before .before .before .before .shared-slice-known2 .given i .fits) in
-    (g .0, g .1, g .2, subst (Room _) (sym (c .before .before .before .before .attempt .ensures .0)) (g .3))
+    copies-ready _ _ _ _ (c .before .before .copied .ensures) (c .before .copied2 .ensures) _ (g .0, g .1, g .2, subst (Room _) (sym (c .before .before .before .before .before .before .attempt .ensures .0)) (g .3))
 
 same-length-2 : tie.Need-same-length-2
 same-length-2 c = search needs
 
 returns-3 : tie.Need-returns-3
-returns-3 c = pair-reported _ _ _ _ _ _ _ _ (c .before .before .before .before .before .before .before .before .before .before .before .before .before .before .before .check-pair .ensures) (c .before .before .before .before .before .before .before .before .before .before .before .before .before .if1 .left) (c .before .before .summed-apart .ensures)
+returns-3 c =
+    pair-reported _ _ _ _ _ _ _ _ (c .before .before .before .before .before .before .before .before .before .before .before .before .before .before .before .check-pair .ensures) (c .before .before .before .before .before .before .before .before .before .before .before .before .before .if1 .left)
+    (copies-reported _ _ _ _ (c .before .before .before .before .before .copied .ensures) (c .before .before .before .before .copied2 .ensures) _ _ (c .before .before .summed .ensures))
 
 answered-requires-2 : tie.Need-answered-requires-2
 answered-requires-2 c κs = search needs
@@ -75,17 +79,8 @@ same-length-3 c = search needs
 
 returns-4 : tie.Need-returns-4
 returns-4 c =
-    pair-reported _ _ _ _ _ _ _ _ (c .before .before .before .before .before .before .before .before .before .before .before .before .before .check-pair .ensures) (c .before .before .before .before .before .before .before .before .before .before .before .if1 .left)
-    (attempted-reported _ _ _ _ (c .before .before .before .before .before .attempt .result) _ (c .before .before .before .before .before .attempt .ensures .1 (c .before .before .if5 .left)) (c .answered2 .ensures))
-
-summed-apart-requires-2 : tie.Need-summed-apart-requires-2
-summed-apart-requires-2 c κs = pair-ready _ _ _ _ _ _ (c .before .before .before .before .before .before .before .before .before .before .before .args .target .now) _ (c .before .before .before .before .before .before .before .check-pair .ensures) (c .before .before .before .before .before .if1 .left) (λ i. c .before .before .before .before .before .before .before .before .before .before .shared-slice-known .given i .fits) (λ i. c .before .before .before .before .before .before .before .before .before .shared-slice-known2 .given i .fits)
-
-same-length-4 : tie.Need-same-length-4
-same-length-4 c = search needs
-
-returns-5 : tie.Need-returns-5
-returns-5 c = pair-reported _ _ _ _ _ _ _ _ (c .before .before .before .before .before .before .before .before .before .before .check-pair .ensures) (c .before .before .before .before .before .before .before .before .if1 .left) (c .before .before .summed-apart2 .ensures)
+    pair-reported _ _ _ _ _ _ _ _ (c .before .before .before .before .before .before .before .before .before .before .before .check-pair .ensures) (c .before .before .before .before .before .before .before .before .before .if1 .left)
+    (attempted-reported _ _ _ _ (c .before .before .before .before .before .attempt .result) _ (c .before .before .before .before .before .attempt .ensures .1 (c .before .before .if4 .left)) (c .answered2 .ensures))
 
 pub add-spec : {M : Type 1} → statement M
 add-spec =
@@ -100,14 +95,12 @@ add-spec =
     answered-requires
     same-length
     returns-2
-    is-regular-requires
     attempt-requires
-    summed-apart-requires
+    copied-requires
+    copied-requires-2
+    summed-requires
     same-length-2
     returns-3
     answered-requires-2
     same-length-3
-    returns-4
-    summed-apart-requires-2
-    same-length-4
-    returns-5)
+    returns-4)
