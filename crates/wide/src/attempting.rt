@@ -130,7 +130,7 @@ fn round_in_order(
 }
 
 // Adds two regular numbers, where the columns that fill the target, or one more, fix the answer.
-fn attempt_regular(
+pub fn attempt(
     mode: u8,
     x: Number,
     xl: &[u64],
@@ -161,26 +161,4 @@ fn attempt_regular(
     };
     let negative = either_sign(swapped, x.negative, y.negative);
     round_in_order(mode, negative, p, pair, swapped, xl, yl, target)
-}
-
-// Adds two numbers, where the columns that fill the target, or one more, fix the answer. A zero is left open.
-pub fn attempt<'a>(
-    mode: u8,
-    x: Number,
-    xl: &'a [u64],
-    y: Number,
-    yl: &'a [u64],
-    p: u64,
-    target: &mut [u64],
-) -> Wide
-    requires { ⌜ WellFormed (operandOf x (now xl)) × WellFormed (operandOf y (now yl)) × Room p (length (now target)) ⌝ }
-    ensures { λ r. ⌜ (length (now (target .exit)) ≡ length (now (target .entry))) × (r .open ≡ false → Attempted (modeOf mode) p (operandOf x (now (xl .entry))) (operandOf y (now (yl .entry))) (now (target .exit)) (r .negative) (r .placed) (r .depth) (r .first) (r .second)) ⌝ }
-{
-    if checks::is_zero(x) {
-        return nothing();
-    }
-    if checks::is_zero(y) {
-        return nothing();
-    }
-    attempt_regular(mode, x, xl, y, yl, p, target)
 }
