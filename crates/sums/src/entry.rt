@@ -103,7 +103,7 @@ pub fn add(
         }
     }
     if is_regular(x, y) {
-        let told = wide::attempt(mode, x, xl, y, yl, p, target);
+        let told = ways::attempt(mode, x, xl, y, yl, p, target);
         if told.open {
             return summed_apart(mode, x, xl, y, yl, p, target);
         }
