@@ -10,19 +10,10 @@ use lib.ListN.{length, take, set, getD, length-set}
 use lib.Pow.{mod-pow-add}
 use lib.Seq.{take-length, take-set-le, getD-set-same}
 use Rattle.limb.specs.Carry.{bit}
-use Rattle.limb.specs.Value.{valueIn}
+use Rattle.limb.specs.Value.{valueIn, Below}
 use Rattle.limb.proofs.Value.{value-nil, value-take, base-pow}
-use Rattle.fused.specs.Fused.{LimbSum, LimbDifference, SumOf, DifferenceOf}
-
--- the lowest i limbs of x and y and the carry in are those of t, of n limbs, with the carry k on top
-pub record SummedTo (i x y : ℕ) (first : Bool) (n : ℕ) (t : List ℕ) (k : Bool) : Type 0 where
-  pub size : length t ≡ n
-  pub value : valueIn (2 ^ 64) (take i t) + (2 ^ 64) ^ i * bit k ≡ x % (2 ^ 64) ^ i + y % (2 ^ 64) ^ i + bit first
-
--- the lowest i limbs of x, less those of y and the borrow in, are those of t, of n limbs, with the borrow k on top of x
-pub record TakenTo (i x y : ℕ) (first : Bool) (n : ℕ) (t : List ℕ) (k : Bool) : Type 0 where
-  pub size : length t ≡ n
-  pub value : valueIn (2 ^ 64) (take i t) + y % (2 ^ 64) ^ i + bit first ≡ x % (2 ^ 64) ^ i + (2 ^ 64) ^ i * bit k
+use Rattle.shifts.proofs.Windows.{limb-bits}
+use Rattle.fused.specs.Fused.{LimbSum, LimbDifference, SummedTo, TakenTo, SumOf, DifferenceOf}
 
 -- limb i of y comes on top of its lowest i limbs
 limb-more : (y i w : ℕ) → w ≡ y / 2 ^ (64 * i) % 2 ^ 64 → y % (2 ^ 64) ^ (i + 1) ≡ y % (2 ^ 64) ^ i + (2 ^ 64) ^ i * w
@@ -78,3 +69,39 @@ module _ (x y : ℕ) (first : Bool) (n : ℕ) where
     all-taken a =
         let all : take i t ≡ t = ap (λ (m : ℕ). take m t) (e ∙ sym (a .size)) ∙ take-length t in
         record { size = a .size; value = rw (all, e, mod-eq-of-lt hx, mod-eq-of-lt hy, base-pow n) at (a .value) }
+
+-- limb i of two runs, and four limbs of them in a row
+module _ (a b : List ℕ) (ha : Below (2 ^ 64) a) (hb : Below (2 ^ 64) b) (first : Bool) (n : ℕ) where
+  abbrev x : ℕ
+  x = valueIn (2 ^ 64) a
+
+  abbrev y : ℕ
+  y = valueIn (2 ^ 64) b
+
+  pub summed-by : (t after : List ℕ) (i j : ℕ) (k out : Bool) → j ≡ i + 1 → i < n → LimbSum i (getD a i 0) (getD b i 0) k t after out
+      → SummedTo i x y first n t k → SummedTo j x y first n after out
+  summed-by t after i j k out ej h l inv = rw ej (limb-summed x y first n t after i _ _ k out h (limb-bits a i ha) (limb-bits b i hb) l inv)
+
+  pub four-summed : (t c d e after : List ℕ) (i : ℕ) (k p q r out : Bool) → i + 3 < n
+      → LimbSum i (getD a i 0) (getD b i 0) k t c p → LimbSum (i + 1) (getD a (i + 1) 0) (getD b (i + 1) 0) p c d q
+      → LimbSum (i + 2) (getD a (i + 2) 0) (getD b (i + 2) 0) q d e r → LimbSum (i + 3) (getD a (i + 3) 0) (getD b (i + 3) 0) r e after out
+      → SummedTo i x y first n t k → SummedTo (i + 4) x y first n after out
+  four-summed t c d e after i k p q r out h l₀ l₁ l₂ l₃ inv =
+      summed-by e after (i + 3) (i + 4) r out (omega arith) (omega arith) l₃
+      (summed-by d e (i + 2) (i + 3) q r (omega arith) (omega arith) l₂
+      (summed-by c d (i + 1) (i + 2) p q (omega arith) (omega arith) l₁
+      (summed-by t c i (i + 1) k p refl (omega arith) l₀ inv)))
+
+  pub taken-by : (t after : List ℕ) (i j : ℕ) (k out : Bool) → j ≡ i + 1 → i < n → LimbDifference i (getD a i 0) (getD b i 0) k t after out
+      → TakenTo i x y first n t k → TakenTo j x y first n after out
+  taken-by t after i j k out ej h l inv = rw ej (limb-taken x y first n t after i _ _ k out h (limb-bits a i ha) (limb-bits b i hb) l inv)
+
+  pub four-taken : (t c d e after : List ℕ) (i : ℕ) (k p q r out : Bool) → i + 3 < n
+      → LimbDifference i (getD a i 0) (getD b i 0) k t c p → LimbDifference (i + 1) (getD a (i + 1) 0) (getD b (i + 1) 0) p c d q
+      → LimbDifference (i + 2) (getD a (i + 2) 0) (getD b (i + 2) 0) q d e r → LimbDifference (i + 3) (getD a (i + 3) 0) (getD b (i + 3) 0) r e after out
+      → TakenTo i x y first n t k → TakenTo (i + 4) x y first n after out
+  four-taken t c d e after i k p q r out h l₀ l₁ l₂ l₃ inv =
+      taken-by e after (i + 3) (i + 4) r out (omega arith) (omega arith) l₃
+      (taken-by d e (i + 2) (i + 3) q r (omega arith) (omega arith) l₂
+      (taken-by c d (i + 1) (i + 2) p q (omega arith) (omega arith) l₁
+      (taken-by t c i (i + 1) k p refl (omega arith) l₀ inv)))

@@ -3,8 +3,8 @@
 use mathlib.Core.Path.{_≡_}
 use mathlib.Core.Bool.{Bool}
 use mathlib.Core.List.{List}
-use Prim.Native.Nat.{ℕ, _+_, _*_, _^_}
-use lib.ListN.{length, getD, set}
+use Prim.Native.Nat.{ℕ, _+_, _*_, _%_, _^_}
+use lib.ListN.{length, take, getD, set}
 use Rattle.limb.specs.Carry.{bit}
 use Rattle.limb.specs.Value.{valueOf}
 
@@ -17,6 +17,16 @@ pub record LimbSum (i x y : ℕ) (carry : Bool) (before after : List ℕ) (out :
 pub record LimbDifference (i x y : ℕ) (borrow : Bool) (before after : List ℕ) (out : Bool) : Type 0 where
   pub others : after ≡ set before i (getD after i 0)
   pub limb : getD after i 0 + y + bit borrow ≡ x + 2 ^ 64 * bit out
+
+-- the lowest i limbs of x and y and the carry in are those of t, of n limbs, with the carry k on top
+pub record SummedTo (i x y : ℕ) (first : Bool) (n : ℕ) (t : List ℕ) (k : Bool) : Type 0 where
+  pub size : length t ≡ n
+  pub value : valueOf (take i t) + (2 ^ 64) ^ i * bit k ≡ x % (2 ^ 64) ^ i + y % (2 ^ 64) ^ i + bit first
+
+-- the lowest i limbs of x, less those of y and the borrow in, are those of t, of n limbs, with the borrow k on top of x
+pub record TakenTo (i x y : ℕ) (first : Bool) (n : ℕ) (t : List ℕ) (k : Bool) : Type 0 where
+  pub size : length t ≡ n
+  pub value : valueOf (take i t) + y % (2 ^ 64) ^ i + bit first ≡ x % (2 ^ 64) ^ i + (2 ^ 64) ^ i * bit k
 
 -- x + y + carry is after, n limbs, with the carry out on top
 pub record SumOf (x y : ℕ) (carry : Bool) (n : ℕ) (after : List ℕ) (out : Bool) : Type 0 where

@@ -1,13 +1,13 @@
--- `fused::difference` is right since after i turns the lowest i limbs of a, less those of b, are the target's lowest i limbs, with the borrow on top of a. Assumes nothing.
+-- `fused::difference` is right since after i limbs the lowest i limbs of a, less those of b, are the target's lowest i limbs, with the borrow on top of a,
+-- and the limbs from limb i on are left to `difference_rest`. Assumes nothing.
 use mathlib.Core.Path.{refl}
 use mathlib.Core.Bool.{false}
 use Prim.Native.Nat.{_-_, _^_, _≤_}
 use native.Mathlib.Omega.{arith}
 use lib.ListN.{length}
 use Rattle.limb.specs.Value.{valueIn}
-use Rattle.limb.proofs.Value.{value-lt}
-use Rattle.shifts.proofs.Windows.{limb-bits}
-use Rattle.fused.proofs.Walking.{TakenTo, none-taken, limb-taken, all-taken}
+use Rattle.fused.specs.Fused.{TakenTo}
+use Rattle.fused.proofs.Walking.{none-taken, four-taken}
 use borrow.Author.Needs.{needs}
 use Rattle.fused.proofs.difference.Statement.{statement}
 use Rattle.fused.proofs.difference.Tie as tie
@@ -21,20 +21,29 @@ abbrev μ-loop : tie.MeasureT-loop
 loop-holds : tie.Need-loop-holds Inv-loop μ-loop
 loop-holds c = (search needs, none-taken _ _ _ _ _ refl)
 
-mul-set-difference : tie.Need-mul-set-difference Inv-loop μ-loop
-mul-set-difference c = search needs
+add-loop : tie.Need-add-loop Inv-loop μ-loop
+add-loop c = search needs
 
-shared-slice-read-set-difference : tie.Need-shared-slice-read-set-difference Inv-loop μ-loop
-shared-slice-read-set-difference c = search needs
+difference-limb-requires : tie.Need-difference-limb-requires Inv-loop μ-loop
+difference-limb-requires c κs = search needs
 
-mul-set-difference-2 : tie.Need-mul-set-difference-2 Inv-loop μ-loop
-mul-set-difference-2 c = search needs
+add-difference-limb : tie.Need-add-difference-limb Inv-loop μ-loop
+add-difference-limb c = search needs
 
-shared-slice-read-set-difference-2 : tie.Need-shared-slice-read-set-difference-2 Inv-loop μ-loop
-shared-slice-read-set-difference-2 c = search needs
+difference-limb-requires-2 : tie.Need-difference-limb-requires-2 Inv-loop μ-loop
+difference-limb-requires-2 c κs = search needs
 
-set-difference-requires : tie.Need-set-difference-requires Inv-loop μ-loop
-set-difference-requires c κs = search needs
+add-difference-limb-2 : tie.Need-add-difference-limb-2 Inv-loop μ-loop
+add-difference-limb-2 c = search needs
+
+difference-limb-requires-3 : tie.Need-difference-limb-requires-3 Inv-loop μ-loop
+difference-limb-requires-3 c κs = search needs
+
+add-difference-limb-3 : tie.Need-add-difference-limb-3 Inv-loop μ-loop
+add-difference-limb-3 c = search needs
+
+difference-limb-requires-4 : tie.Need-difference-limb-requires-4 Inv-loop μ-loop
+difference-limb-requires-4 c κs = search needs
 
 add-i : tie.Need-add-i Inv-loop μ-loop
 add-i c = search needs
@@ -45,25 +54,25 @@ loop-less c = search needs
 loop-again : tie.Need-loop-again Inv-loop μ-loop
 loop-again c = (
   search needs,
-  let s = c .before .before in
-      let l = s .before .before .before .before .before .loop in
-      let b = s .before .before .before .before .before .before .shared-slice-known2 in
-      let a = s .before .before .before .before .before .before .before .shared-slice-known in
-      limb-taken _ _ _ _ (l .target) _ (l .i) _ _ (l .borrow) _ (omega arith) (limb-bits _ (l .i) (λ i. a .given i .fits)) (limb-bits _ (l .i) (λ i. b .given i .fits))
-      (s .set-difference .ensures) (l .inv .1),
+  let s4 = c .before .before in
+      let s3 = s4 .before .before .before .before in
+      let s2 = s3 .before .before .before .before in
+      let s1 = s2 .before .before .before .before in
+      let l = s1 .before .before .before .loop in
+      let b = s1 .before .before .before .before .shared-slice-known2 in
+      let a = s1 .before .before .before .before .before .shared-slice-known in
+      four-taken _ _ (λ i. a .given i .fits) (λ i. b .given i .fits) _ _ (l .target) _ _ _ _ (l .i) (l .borrow) _ _ _ _ (omega arith)
+      (s1 .difference-limb .ensures) (s2 .difference-limb2 .ensures) (s3 .difference-limb3 .ensures) (s4 .difference-limb4 .ensures) (l .inv .1),
 )
+
+difference-rest-requires : tie.Need-difference-rest-requires Inv-loop μ-loop
+difference-rest-requires c κs = search needs
 
 same-length : tie.Need-same-length Inv-loop μ-loop
 same-length c = search needs
 
 returns : tie.Need-returns Inv-loop μ-loop
-returns c =
-    let l = c .before .loop in
-    let g = c .before .before .before .before .before in
-    let b = c .before .before .shared-slice-known2 in
-    let a = c .before .before .before .shared-slice-known in
-    all-taken _ _ _ _ (l .target) (l .borrow) (l .i) (omega arith) (rw (g .pre .0) at (value-lt (2 ^ 64) (g .args .a .now) (λ i. a .given i .fits)))
-    (rw (g .pre .1) at (value-lt (2 ^ 64) (g .args .b .now) (λ i. b .given i .fits))) (l .inv .1)
+returns c = rw (c .before .before .before .before .before .loop .inv .1 .size) at (c .before .before .difference-rest .ensures)
 
 pub difference-spec : {M : Type 1} → statement M
 difference-spec =
@@ -72,13 +81,17 @@ difference-spec =
     Inv-loop
     μ-loop
     loop-holds
-    mul-set-difference
-    shared-slice-read-set-difference
-    mul-set-difference-2
-    shared-slice-read-set-difference-2
-    set-difference-requires
+    add-loop
+    difference-limb-requires
+    add-difference-limb
+    difference-limb-requires-2
+    add-difference-limb-2
+    difference-limb-requires-3
+    add-difference-limb-3
+    difference-limb-requires-4
     add-i
     loop-less
     loop-again
+    difference-rest-requires
     same-length
     returns)

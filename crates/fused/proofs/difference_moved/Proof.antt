@@ -8,7 +8,8 @@ use Rattle.limb.specs.Value.{valueIn, Below}
 use Rattle.limb.proofs.Value.{value-lt}
 use Rattle.shifts.proofs.Windows.{limb-bits}
 use Rattle.fused.proofs.Moving.{moved-limb, last-moved, moved-lt}
-use Rattle.fused.proofs.Walking.{TakenTo, none-taken, limb-taken, all-taken}
+use Rattle.fused.specs.Fused.{TakenTo}
+use Rattle.fused.proofs.Walking.{none-taken, limb-taken, all-taken}
 use borrow.Author.Needs.{needs}
 use Rattle.fused.proofs.difference_moved.Statement.{statement}
 use Rattle.fused.proofs.difference_moved.Tie as tie

@@ -1,13 +1,13 @@
--- `fused::sum` is right since after i turns the lowest i limbs of the operands are the target's lowest i limbs with the carry on top. Assumes nothing.
+-- `fused::sum` is right since after i limbs the lowest i limbs of the operands are the target's lowest i limbs with the carry on top,
+-- and the limbs from limb i on are left to `sum_rest`. Assumes nothing.
 use mathlib.Core.Path.{refl}
 use mathlib.Core.Bool.{false}
 use Prim.Native.Nat.{_-_, _^_, _≤_}
 use native.Mathlib.Omega.{arith}
 use lib.ListN.{length}
 use Rattle.limb.specs.Value.{valueIn}
-use Rattle.limb.proofs.Value.{value-lt}
-use Rattle.shifts.proofs.Windows.{limb-bits}
-use Rattle.fused.proofs.Walking.{SummedTo, none-summed, limb-summed, all-summed}
+use Rattle.fused.specs.Fused.{SummedTo}
+use Rattle.fused.proofs.Walking.{none-summed, four-summed}
 use borrow.Author.Needs.{needs}
 use Rattle.fused.proofs.sum.Statement.{statement}
 use Rattle.fused.proofs.sum.Tie as tie
@@ -21,20 +21,29 @@ abbrev μ-loop : tie.MeasureT-loop
 loop-holds : tie.Need-loop-holds Inv-loop μ-loop
 loop-holds c = (search needs, none-summed _ _ _ _ _ refl)
 
-mul-set-sum : tie.Need-mul-set-sum Inv-loop μ-loop
-mul-set-sum c = search needs
+add-loop : tie.Need-add-loop Inv-loop μ-loop
+add-loop c = search needs
 
-shared-slice-read-set-sum : tie.Need-shared-slice-read-set-sum Inv-loop μ-loop
-shared-slice-read-set-sum c = search needs
+sum-limb-requires : tie.Need-sum-limb-requires Inv-loop μ-loop
+sum-limb-requires c κs = search needs
 
-mul-set-sum-2 : tie.Need-mul-set-sum-2 Inv-loop μ-loop
-mul-set-sum-2 c = search needs
+add-sum-limb : tie.Need-add-sum-limb Inv-loop μ-loop
+add-sum-limb c = search needs
 
-shared-slice-read-set-sum-2 : tie.Need-shared-slice-read-set-sum-2 Inv-loop μ-loop
-shared-slice-read-set-sum-2 c = search needs
+sum-limb-requires-2 : tie.Need-sum-limb-requires-2 Inv-loop μ-loop
+sum-limb-requires-2 c κs = search needs
 
-set-sum-requires : tie.Need-set-sum-requires Inv-loop μ-loop
-set-sum-requires c κs = search needs
+add-sum-limb-2 : tie.Need-add-sum-limb-2 Inv-loop μ-loop
+add-sum-limb-2 c = search needs
+
+sum-limb-requires-3 : tie.Need-sum-limb-requires-3 Inv-loop μ-loop
+sum-limb-requires-3 c κs = search needs
+
+add-sum-limb-3 : tie.Need-add-sum-limb-3 Inv-loop μ-loop
+add-sum-limb-3 c = search needs
+
+sum-limb-requires-4 : tie.Need-sum-limb-requires-4 Inv-loop μ-loop
+sum-limb-requires-4 c κs = search needs
 
 add-i : tie.Need-add-i Inv-loop μ-loop
 add-i c = search needs
@@ -45,25 +54,25 @@ loop-less c = search needs
 loop-again : tie.Need-loop-again Inv-loop μ-loop
 loop-again c = (
   search needs,
-  let s = c .before .before in
-      let l = s .before .before .before .before .before .loop in
-      let b = s .before .before .before .before .before .before .shared-slice-known2 in
-      let a = s .before .before .before .before .before .before .before .shared-slice-known in
-      limb-summed _ _ _ _ (l .target) _ (l .i) _ _ (l .carry) _ (omega arith) (limb-bits _ (l .i) (λ i. a .given i .fits)) (limb-bits _ (l .i) (λ i. b .given i .fits))
-      (s .set-sum .ensures) (l .inv .1),
+  let s4 = c .before .before in
+      let s3 = s4 .before .before .before .before in
+      let s2 = s3 .before .before .before .before in
+      let s1 = s2 .before .before .before .before in
+      let l = s1 .before .before .before .loop in
+      let b = s1 .before .before .before .before .shared-slice-known2 in
+      let a = s1 .before .before .before .before .before .shared-slice-known in
+      four-summed _ _ (λ i. a .given i .fits) (λ i. b .given i .fits) _ _ (l .target) _ _ _ _ (l .i) (l .carry) _ _ _ _ (omega arith)
+      (s1 .sum-limb .ensures) (s2 .sum-limb2 .ensures) (s3 .sum-limb3 .ensures) (s4 .sum-limb4 .ensures) (l .inv .1),
 )
+
+sum-rest-requires : tie.Need-sum-rest-requires Inv-loop μ-loop
+sum-rest-requires c κs = search needs
 
 same-length : tie.Need-same-length Inv-loop μ-loop
 same-length c = search needs
 
 returns : tie.Need-returns Inv-loop μ-loop
-returns c =
-    let l = c .before .loop in
-    let g = c .before .before .before .before .before in
-    let b = c .before .before .shared-slice-known2 in
-    let a = c .before .before .before .shared-slice-known in
-    all-summed _ _ _ _ (l .target) (l .carry) (l .i) (omega arith) (rw (g .pre .0) at (value-lt (2 ^ 64) (g .args .a .now) (λ i. a .given i .fits)))
-    (rw (g .pre .1) at (value-lt (2 ^ 64) (g .args .b .now) (λ i. b .given i .fits))) (l .inv .1)
+returns c = rw (c .before .before .before .before .before .loop .inv .1 .size) at (c .before .before .sum-rest .ensures)
 
 pub sum-spec : {M : Type 1} → statement M
 sum-spec =
@@ -72,13 +81,17 @@ sum-spec =
     Inv-loop
     μ-loop
     loop-holds
-    mul-set-sum
-    shared-slice-read-set-sum
-    mul-set-sum-2
-    shared-slice-read-set-sum-2
-    set-sum-requires
+    add-loop
+    sum-limb-requires
+    add-sum-limb
+    sum-limb-requires-2
+    add-sum-limb-2
+    sum-limb-requires-3
+    add-sum-limb-3
+    sum-limb-requires-4
     add-i
     loop-less
     loop-again
+    sum-rest-requires
     same-length
     returns)

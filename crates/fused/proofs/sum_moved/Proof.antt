@@ -9,7 +9,8 @@ use Rattle.limb.specs.Value.{valueIn, Below}
 use Rattle.limb.proofs.Value.{value-lt}
 use Rattle.shifts.proofs.Windows.{limb-bits}
 use Rattle.fused.proofs.Moving.{moved-limb, last-moved, moved-lt}
-use Rattle.fused.proofs.Walking.{SummedTo, none-summed, limb-summed, all-summed}
+use Rattle.fused.specs.Fused.{SummedTo}
+use Rattle.fused.proofs.Walking.{none-summed, limb-summed, all-summed}
 use borrow.Author.Needs.{needs}
 use Rattle.fused.proofs.sum_moved.Statement.{statement}
 use Rattle.fused.proofs.sum_moved.Tie as tie
