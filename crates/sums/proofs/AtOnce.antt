@@ -22,7 +22,7 @@ use Rattle.reports.specs.Signed.{Signed}
 use Rattle.ending.proofs.RegularEnd.{deep-enough}
 use Rattle.narrow.specs.declared.looking.Sight.{Sight}
 use Rattle.narrow.specs.Looked.{Looked}
-use Rattle.wide.specs.declared.attempting.Wide.{Wide}
+use Rattle.wide.specs.declared.told.Wide.{Wide}
 use Rattle.wide.specs.Attempted.{Attempted}
 use Rattle.reports.specs.declared.report.Sum.{Sum}
 use Rattle.reports.specs.Summed.{sumOf, Reported}

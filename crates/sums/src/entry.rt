@@ -72,7 +72,7 @@ pub fn add<'a>(
             return reports::answered(placed, sight.negative, p, 1, sight.first, sight.second);
         }
     }
-    let told = wide::attempt(mode, x, xl, y, yl, p, target);
+    let told = ways::attempt(mode, x, xl, y, yl, p, target);
     if told.open {
         return summed(
             mode,

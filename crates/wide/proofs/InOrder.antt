@@ -39,7 +39,7 @@ use Rattle.reports.specs.Signed.{Signed}
 use Rattle.ending.proofs.Finishing.{room-pos}
 use Rattle.ending.proofs.RegularEnd.{deep-enough, not-deep, rounded-signed}
 use Rattle.ending.proofs.Handed.{ordered-pair, beq-turned, top-first, course-first}
-use Rattle.wide.specs.declared.fill.Filled.{Filled}
+use Rattle.wide.specs.declared.filling.Filled.{Filled}
 use Rattle.wide.specs.Filling.{Holding, Offered, Rounds, Fills}
 use Rattle.reports.specs.Counts.{usedOf}
 use Rattle.reports.proofs.Counts.{used-is}

@@ -16,7 +16,7 @@ use Rattle.walk.specs.declared.state.Window.{Window}
 use Rattle.leap.specs.Leap.{Leapt}
 use Rattle.bridge.specs.Verdict.{pairOf, readSum}
 use Rattle.descent.specs.Course.{Course, Prompt}
-use Rattle.wide.specs.declared.fill.Filled.{Filled}
+use Rattle.wide.specs.declared.filling.Filled.{Filled}
 
 -- what the code holds of two regular operands in order, the first larger from the first column on where their signs are unlike
 pub record Holding (x y : Operand) (pair : Pair) (first second : List ℕ) : Type 0 where

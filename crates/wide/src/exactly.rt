@@ -15,8 +15,8 @@ ghost use Rattle.wide.specs.Filling.{Offered, Promptly, Fills};
 use crate::below::is_hollow;
 use crate::below::is_read;
 use crate::below::more_below;
-use crate::fill::Filled;
-use crate::fill::none;
+use crate::filling::Filled;
+use crate::filling::none;
 use settle::Pair;
 
 // Whether a borrow from below leaves something in the top limb.

@@ -13,8 +13,8 @@ ghost use Rattle.wide.specs.Filling.{Offered, Fills};
 ghost use Rattle.wide.specs.Guarding.{Spent, Guards};
 use crate::below::is_read;
 use crate::below::more_below;
-use crate::fill::Filled;
-use crate::fill::none;
+use crate::filling::Filled;
+use crate::filling::none;
 use settle::Pair;
 
 // Whether the last digits of the guard, as many as the top limb has, the first of them left out, are neither all zeros nor all ones.

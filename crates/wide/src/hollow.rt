@@ -14,8 +14,8 @@ ghost use Rattle.columns.specs.Column.{readTo};
 ghost use Rattle.descent.specs.Ready.{Room};
 ghost use Rattle.wide.specs.Filling.{Offered, Fills};
 ghost use Rattle.wide.specs.Covering.{Covers};
-use crate::fill::Filled;
-use crate::fill::none;
+use crate::filling::Filled;
+use crate::filling::none;
 use settle::Pair;
 
 // Fills the target with the columns of an operand of m digits, from the top.

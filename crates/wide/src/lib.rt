@@ -1,10 +1,12 @@
 // A sum read at once into its target, where the columns that fill it, or one more, fix the answer.
-mod fill; // fill.rt: which way the target is filled
+mod filling; // filling.rt: which way the target is filled
 mod below; // below.rt: what lies below the columns read
 mod exactly; // exactly.rt: the columns that fill the target fix the answer
 mod guarded; // guarded.rt: one column more fixes it
 mod hollow; // hollow.rt: the second operand lies below all that is read of the first
-mod attempting; // attempting.rt: two regular numbers in any order
+mod told; // told.rt: what is told of the sum
 
-pub use attempting::Wide;
-pub use attempting::attempt;
+pub use filling::Filled;
+pub use filling::fill;
+pub use told::Wide;
+pub use told::nothing;

@@ -1,9 +1,9 @@
--- `wide::fill_in_order` is right in each order. Assumes nothing.
+-- `ways::fill_in_order` is right in each order. Assumes nothing.
 use mathlib.Core.Bool.{true, false}
 use Rattle.wide.proofs.InOrder.{offered-as, fills-as}
 use borrow.Author.Needs.{needs}
-use Rattle.wide.proofs.attempting.fill_in_order.Statement.{statement}
-use Rattle.wide.proofs.attempting.fill_in_order.Tie as tie
+use Rattle.ways.proofs.fill_in_order.Statement.{statement}
+use Rattle.ways.proofs.fill_in_order.Tie as tie
 
 fill-requires : tie.Need-fill-requires
 fill-requires c κs = (c .before .before .before .before .before .pre .0, offered-as true (c .before .before .before .before .before .args .xl .now) (c .before .before .before .before .before .args .yl .now) (c .before .if1 .taken) (c .before .before .before .before .before .pre .1))

@@ -1,4 +1,4 @@
--- `wide::attempt` is right since exponents and top limbs tell which operand comes first, and the two may change places. Assumes nothing.
+-- `ways::attempt` is right since exponents and top limbs tell which operand comes first, and the two may change places. Assumes nothing.
 use mathlib.Core.Path.{refl, sym, _∙_}
 use mathlib.Core.Bool.{true≢false}
 use native.Mathlib.Omega.{arith}
@@ -6,10 +6,10 @@ use mir.Facts.{toZ-ofZ}
 use Rattle.rounding.specs.Mode.{modeOf}
 use Rattle.checks.specs.Number.{operandOf}
 use Rattle.ending.proofs.Handed.{handed-some}
 use Rattle.wide.proofs.InOrder.{gap-some, offered, holding, sign-told, attempted-told}
 use borrow.Author.Needs.{needs}
-use Rattle.wide.proofs.attempting.attempt.Statement.{statement}
-use Rattle.wide.proofs.attempting.attempt.Tie as tie
+use Rattle.ways.proofs.attempt.Statement.{statement}
+use Rattle.ways.proofs.attempt.Tie as tie
 
 sub-u : tie.Need-sub-u
 sub-u c = omega (arith, handed-some (c .before .before .before .args .x) (c .before .before .before .args .xl .now) (c .before .before .before .pre .0))

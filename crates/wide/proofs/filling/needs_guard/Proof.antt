@@ -3,8 +3,8 @@ use mathlib.Core.Path.{sym}
 use mathlib.Core.Bool.{true≢false}
 use Rattle.wide.proofs.GuardBelow.{spent-told}
 use borrow.Author.Needs.{needs}
-use Rattle.wide.proofs.fill.needs_guard.Statement.{statement}
-use Rattle.wide.proofs.fill.needs_guard.Tie as tie
+use Rattle.wide.proofs.filling.needs_guard.Statement.{statement}
+use Rattle.wide.proofs.filling.needs_guard.Tie as tie
 
 mul-if1 : tie.Need-mul-if1
 mul-if1 c = search needs

@@ -1,12 +1,12 @@
--- `wide::round_in_order` is right since what fills the target is rounded once. Assumes nothing.
+-- `ways::round_in_order` is right since what fills the target is rounded once. Assumes nothing.
 use mathlib.Core.Path.{sym, _∙_}
 use mathlib.Core.Bool.{true≢false}
 use native.Mathlib.Omega.{arith}
 use Rattle.descent.proofs.GoingDown.{room-kept}
 use Rattle.wide.proofs.InOrder.{limbs-weigh, unit-room, fit, few, in-order-told, counted-in-order}
 use borrow.Author.Needs.{needs}
-use Rattle.wide.proofs.attempting.round_in_order.Statement.{statement}
-use Rattle.wide.proofs.attempting.round_in_order.Tie as tie
+use Rattle.ways.proofs.round_in_order.Statement.{statement}
+use Rattle.ways.proofs.round_in_order.Tie as tie
 
 fill-in-order-requires : tie.Need-fill-in-order-requires
 fill-in-order-requires c κs = search needs

@@ -1,4 +1,4 @@
-// A sum of two regular numbers in any order, read at once.
+// A sum of two regular numbers in any order, read at once: which of them comes first, and in which way it is read.
 ghost use mathlib.Core.Path.{_≡_};
 ghost use mathlib.Core.Bool.{true, false, not, cond, _&&_, _||_};
 ghost use lib.Dec.{ltb, eqb};
@@ -7,42 +7,13 @@ ghost use Rattle.numbers.specs.Operand.{Operand, WellFormed};
 ghost use Rattle.rounding.specs.Mode.{modeOf};
 ghost use Rattle.checks.specs.Number.{operandOf};
 ghost use Rattle.descent.specs.Ready.{Room};
 ghost use Rattle.wide.specs.Filling.{Holding, Offered, Fills};
 ghost use Rattle.wide.specs.Attempted.{Attempted};
-use crate::fill::Filled;
-use crate::fill::fill;
 use checks::Number;
-use place::Placed;
 use settle::Pair;
-
-// The answer and its sign, the depth, and the limbs used of each operand. Or it is left open.
-pub struct Wide {
-    pub open: bool,
-    pub negative: bool,
-    pub placed: Placed,
-    pub depth: u64,
-    pub first: u64,
-    pub second: u64,
-}
-
-// Left open.
-fn nothing() -> Wide
-    ensures { λ r. ⌜ r .open ≡ true ⌝ }
-{
-    let placed = Placed {
-        rule: 0,
-        exponent: 0,
-        ternary: 0,
-    };
-    Wide {
-        open: true,
-        negative: false,
-        placed: placed,
-        depth: 0,
-        first: 0,
-        second: 0,
-    }
-}
+use wide::Filled;
+use wide::Wide;
+use wide::nothing;
 
 // The first of two counts, or the second.
 fn either(second: bool, a: u64, b: u64) -> u64
@@ -85,9 +56,9 @@ fn fill_in_order(
     ensures { λ r. ⌜ (length (now (target .exit)) ≡ length (now (target .entry))) × Fills p pair (cond swapped (now (yl .entry)) (now (xl .entry))) (cond swapped (now (xl .entry)) (now (yl .entry))) (now (target .exit)) r ⌝ }
 {
     if swapped {
-        return fill(p, pair, yl, xl, target);
+        return wide::fill(p, pair, yl, xl, target);
     }
-    fill(p, pair, xl, yl, target)
+    wide::fill(p, pair, xl, yl, target)
 }
 
 // Rounds what fills the target.

@@ -4,8 +4,8 @@ use Prim.Native.Nat.{ℕ, _+_, _≤_}
 use native.Mathlib.Omega.{arith}
 use Rattle.wide.proofs.FullTarget.{offered-modest}
 use borrow.Author.Needs.{needs}
-use Rattle.wide.proofs.fill.fill.Statement.{statement}
-use Rattle.wide.proofs.fill.fill.Tie as tie
+use Rattle.wide.proofs.filling.fill.Statement.{statement}
+use Rattle.wide.proofs.filling.fill.Tie as tie
 
 near : (n : ℕ) → n ≤ n + 1
 near n = omega arith
