@@ -9,4 +9,5 @@ pub use going::Verdict;
 pub use going::Walked;
 pub use going::walk_down;
 pub use prompt::fill;
+pub use prompt::is_inland;
 pub use prompt::is_prompt;
