@@ -58,3 +58,51 @@ pub fn difference(target: &mut [u64], a: &[u64], b: &[u64]) -> bool
     }
     borrow
 }
+
+// The limb of two neighbours moved down by gap bits.
+//
+//     [     high    ]  [     low     ]
+//             [  the limb ][   gap   ]
+//
+fn moved(low: u64, high: u64, gap: u64) -> u64
+    requires { ⌜ (0 < gap) × (gap < 64) ⌝ }
+    ensures { λ r. ⌜ r ≡ (low + 2 ^ 64 * high) / 2 ^ gap % 2 ^ 64 ⌝ }
+{
+    (low >> gap) | (high << (64 - gap))
+}
+
+// a + b / 2^gap. Returns the carry out.
+pub fn sum_moved(target: &mut [u64], a: &[u64], b: &[u64], gap: u64) -> bool
+    requires { ⌜ (length (now a) ≡ length (now target)) × (length (now b) ≡ length (now target)) × (0 < length (now target)) × (0 < gap) × (gap < 64) ⌝ }
+    ensures { λ r. ⌜ SumOf (valueOf (now (a .entry))) (valueOf (now (b .entry)) / 2 ^ gap) false (length (now (target .entry))) (now (target .exit)) r ⌝ }
+{
+    let last = target.len() - 1;
+    let mut low = b[0];
+    let mut carry = false;
+    let mut i = 0;
+    while i < last {
+        let high = b[i + 1];
+        carry = set_sum(target, i, a[i], moved(low, high, gap), carry);
+        low = high;
+        i += 1;
+    }
+    set_sum(target, last, a[last], low >> gap, carry)
+}
+
+// a - b / 2^gap - borrow. Returns the borrow out.
+pub fn difference_moved(target: &mut [u64], a: &[u64], b: &[u64], gap: u64, borrow: bool) -> bool
+    requires { ⌜ (length (now a) ≡ length (now target)) × (length (now b) ≡ length (now target)) × (0 < length (now target)) × (0 < gap) × (gap < 64) ⌝ }
+    ensures { λ r. ⌜ DifferenceOf (valueOf (now (a .entry))) (valueOf (now (b .entry)) / 2 ^ gap) borrow (length (now (target .entry))) (now (target .exit)) r ⌝ }
+{
+    let last = target.len() - 1;
+    let mut low = b[0];
+    let mut down = borrow;
+    let mut i = 0;
+    while i < last {
+        let high = b[i + 1];
+        down = set_difference(target, i, a[i], moved(low, high, gap), down);
+        low = high;
+        i += 1;
+    }
+    set_difference(target, last, a[last], low >> gap, down)
+}
