@@ -8,4 +8,5 @@ pub use going::Walked;
 pub use going::walk_down;
 pub use half::lies_inside;
 pub use prompt::fill;
+pub use prompt::is_inland;
 pub use prompt::is_prompt;

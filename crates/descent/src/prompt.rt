@@ -28,7 +28,7 @@ fn reaches(pair: Pair, second: usize, last: u64) -> bool
 }
 
 // Whether no refusal is near after so many columns.
-fn is_inland(pair: Pair, columns: u64) -> bool
+pub fn is_inland(pair: Pair, columns: u64) -> bool
     requires { ⌜ (pair .top ≤ 2 ^ 42) × (columns ≤ 2 ^ 20) ⌝ }
     ensures { λ r. ⌜ (r ≡ true → pair .same ≡ true → ltb mostExponent (pair .top + 2) ≡ false) × (r ≡ true → pair .same ≡ false → ltb (pair .top + 1) (leastExponent + 64 * columns) ≡ false) ⌝ }
 {

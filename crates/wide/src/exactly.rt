@@ -57,7 +57,7 @@ fn is_inside(carry: bool, target: &[u64], p: u64) -> bool
 }
 
 // What a full target fixes.
-fn glance(p: u64, pair: Pair, carry: bool, target: &[u64]) -> Filled
+pub fn glance_full(p: u64, pair: Pair, carry: bool, target: &[u64]) -> Filled
     requires { ⌜ Room p (length (now target)) × Modest pair (length (now target)) × (0 < pair .second) ⌝ }
     ensures { λ r. ⌜ ((first second before : List ℕ) (w : Window) → Promptly pair first second before (now (target .entry)) w carry → Fills p pair first second (now (target .entry)) r) ⌝ }
 {
@@ -98,5 +98,5 @@ pub fn fill_exactly(p: u64, pair: Pair, first: &[u64], second: &[u64], target: &
         return none();
     }
     let w = descent::fill(pair, first, second, 0, target);
-    glance(p, pair, w.carry, target)
+    glance_full(p, pair, w.carry, target)
 }

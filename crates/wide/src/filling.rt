@@ -36,7 +36,7 @@ pub fn none() -> Filled
 }
 
 // Whether a column below the target is needed: it has no digit to spare, and n columns leave some unread.
-fn needs_guard(p: u64, pair: Pair, n: u64) -> bool
+pub fn needs_guard(p: u64, pair: Pair, n: u64) -> bool
     requires { ⌜ Modest pair n ⌝ }
     ensures { λ r. ⌜ (r ≡ true → Spent p pair n) ⌝ }
 {

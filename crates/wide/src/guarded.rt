@@ -27,7 +27,7 @@ fn is_inside(top: u64, guard: u64) -> bool
 }
 
 // What a full target and a guard fix.
-fn glance(p: u64, pair: Pair, guard: u64, target: &[u64]) -> Filled
+pub fn glance_guarded(p: u64, pair: Pair, guard: u64, target: &[u64]) -> Filled
     requires { ⌜ Room p (length (now target)) × Modest pair (length (now target) + 1) × (0 < pair .second) ⌝ }
     ensures { λ r. ⌜ ((first second : List ℕ) → Guards p pair first second (now (target .entry)) guard → Fills p pair first second (now (target .entry)) r) ⌝ }
 {
@@ -96,5 +96,5 @@ pub fn fill_guarded(p: u64, pair: Pair, first: &[u64], second: &[u64], target: &
     if run.carry {
         return none();
     }
-    glance(p, pair, run.guard, target)
+    glance_guarded(p, pair, run.guard, target)
 }

@@ -6,7 +6,11 @@ mod guarded; // guarded.rt: one column more fixes it
 mod hollow; // hollow.rt: the second operand lies below all that is read of the first
 mod told; // told.rt: what is told of the sum
 
+pub use exactly::glance_full;
 pub use filling::Filled;
 pub use filling::fill;
+pub use filling::needs_guard;
+pub use filling::none;
+pub use guarded::glance_guarded;
 pub use told::Wide;
 pub use told::nothing;

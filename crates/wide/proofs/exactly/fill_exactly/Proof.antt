@@ -25,8 +25,8 @@ returns c = (refl, λ e. absurd (true≢false (sym (c .none .ensures) ∙ e)))
 fill-requires : tie.Need-fill-requires
 fill-requires c κs = (offered-sighted _ _ (c .before .before .before .before .before .before .args .first .now) (c .before .before .before .before .before .before .args .second .now) (c .before .before .before .before .before .before .pre .1) (c .before .before .before .before .before .before .args .target .now) (c .before .before .before .before .before .before .pre .0), c .before .before .is-prompt .ensures (not-true _ (c .before .if1 .left)))
 
-glance-requires : tie.Need-glance-requires
-glance-requires c κs =
+glance-full-requires : tie.Need-glance-full-requires
+glance-full-requires c κs =
     let s = c .before .before .before .before .before .before .before .before .before .before in
     let room = room-kept _ _ _ (c .before .before .target .given) (s .pre .0) in
     let o = s .pre .1 in
@@ -38,7 +38,7 @@ same-length c = search needs
 returns-2 : tie.Need-returns-2
 returns-2 c =
     let s = c .before .before .before .before .before .before .before .before .before .before .before in
-    (c .before .before .before .target .given, c .glance .ensures (s .args .first .now) (s .args .second .now) (s .args .target .now) _ (record { prompt = c .before .before .before .before .before .before .before .is-prompt .ensures (not-true _ (c .before .before .before .before .before .before .if1 .left)); filled = c .before .before .before .before .fill .ensures; size = c .before .before .before .target .given; carry-is = refl }))
+    (c .before .before .before .target .given, c .glance-full .ensures (s .args .first .now) (s .args .second .now) (s .args .target .now) _ (record { prompt = c .before .before .before .before .before .before .before .is-prompt .ensures (not-true _ (c .before .before .before .before .before .before .if1 .left)); filled = c .before .before .before .before .fill .ensures; size = c .before .before .before .target .given; carry-is = refl }))
 
 pub fill-exactly-spec : {M : Type 1} → statement M
 fill-exactly-spec =
@@ -48,6 +48,6 @@ fill-exactly-spec =
     none-requires
     returns
     fill-requires
-    glance-requires
+    glance-full-requires
     same-length
     returns-2)

@@ -53,8 +53,8 @@ same-length c = search needs
 returns-3 : tie.Need-returns-3
 returns-3 c = (c .before .before .before .before .guarded-columns .ensures .0, λ e. absurd (true≢false (sym (c .none3 .ensures) ∙ e)))
 
-glance-requires : tie.Need-glance-requires
-glance-requires c κs =
+glance-guarded-requires : tie.Need-glance-guarded-requires
+glance-guarded-requires c κs =
     let s = c .before .before .before .before .before .before .before .before .before .before .before .before .before in
     let room = room-kept _ _ _ (c .before .before .before .before .guarded-columns .ensures .0) (s .pre .0) in
     (room, offered-modest (s .args .p) _ (s .args .first .now) (s .args .second .now) (s .pre .1) _ _ room (le-refl _), offered-second (s .args .p) _ (s .args .first .now) (s .args .second .now) (s .pre .1))
@@ -69,7 +69,7 @@ returns-4 c =
     let prompt = c .before .before .before .before .before .before .before .before .before .before .is-prompt .ensures (not-true _ (c .before .before .before .before .before .before .before .before .before .if1 .left)) in
     let some = offered-second (s .args .p) _ (s .args .first .now) (s .args .second .now) (s .pre .1) in (
       c .before .before .before .before .before .guarded-columns .ensures .0,
-      c .glance .ensures (s .args .first .now) (s .args .second .now) (guards (s .args .p) _ (s .args .first .now) (s .args .second .now) (s .args .target .now) sight prompt some _ (c .before .before .before .before .before .guarded-columns .ensures .0) _ (c .before .before .if3 .left) (s .pre .2) (c .before .before .before .before .before .before .before .before .reaches-on .ensures (not-true _ (c .before .before .before .before .before .before .before .if2 .left)) .1) (c .before .before .before .before .before .guarded-columns .ensures .1)),
+      c .glance-guarded .ensures (s .args .first .now) (s .args .second .now) (guards (s .args .p) _ (s .args .first .now) (s .args .second .now) (s .args .target .now) sight prompt some _ (c .before .before .before .before .before .guarded-columns .ensures .0) _ (c .before .before .if3 .left) (s .pre .2) (c .before .before .before .before .before .before .before .before .reaches-on .ensures (not-true _ (c .before .before .before .before .before .before .before .if2 .left)) .1) (c .before .before .before .before .before .guarded-columns .ensures .1)),
     )
 
 pub fill-guarded-spec : {M : Type 1} → statement M
@@ -86,6 +86,6 @@ fill-guarded-spec =
     none-requires-3
     same-length
     returns-3
-    glance-requires
+    glance-guarded-requires
     same-length-2
     returns-4)

@@ -1,4 +1,4 @@
--- `wide::glance` is right since a full target whose rest is known, or lies inside a half, fixes the answer. Assumes nothing.
+-- `wide::glance_full` is right since a full target whose rest is known, or lies inside a half, fixes the answer. Assumes nothing.
 use mathlib.Core.Path.{sym, _∙_}
 use mathlib.Core.Bool.{true≢false}
 use Rattle.descent.proofs.GoingDown.{room-some}
@@ -6,8 +6,8 @@ use Rattle.descent.proofs.AtOnce.{not-true}
 use Rattle.wide.proofs.Unread.{row-read}
 use Rattle.wide.proofs.FullTarget.{full, read-rounds, inside-rounds}
 use borrow.Author.Needs.{needs}
-use Rattle.wide.proofs.exactly.glance.Statement.{statement}
-use Rattle.wide.proofs.exactly.glance.Tie as tie
+use Rattle.wide.proofs.exactly.glance_full.Statement.{statement}
+use Rattle.wide.proofs.exactly.glance_full.Tie as tie
 
 has-lead-requires : tie.Need-has-lead-requires
 has-lead-requires c κs = room-some _ _ (c .before .pre .0)
@@ -48,8 +48,8 @@ more-below-requires c κs = search needs
 returns-5 : tie.Need-returns-5
 returns-5 c = λ first second before w a e o x y h. inside-rounds _ _ first second before _ w _ (c .before .before .before .before .before .before .before .before .before .before .pre .0) a (sym (c .before .before .before .before .before .before .before .before .has-lead .ensures) ∙ not-true _ (c .before .before .before .before .before .before .before .if1 .left)) o x y h (c .before .before .is-inside .ensures (not-true _ (c .before .if4 .left)) w (a .carry-is) (full _ _ first second before _ w _ (c .before .before .before .before .before .before .before .before .before .before .pre .0) a (sym (c .before .before .before .before .before .before .before .before .has-lead .ensures) ∙ not-true _ (c .before .before .before .before .before .before .before .if1 .left)) o x y h)) _ (c .more-below .ensures (c .before .before .before .before .before .before .before .before .before .before .pre .2) (sym (c .before .before .before .before .before .before .is-read .ensures) ∙ c .before .before .before .before .before .if2 .left) (sym (c .before .before .before .before .is-hollow .ensures) ∙ c .before .before .before .if3 .left))
 
-pub glance-spec : {M : Type 1} → statement M
-glance-spec =
+pub glance-full-spec : {M : Type 1} → statement M
+glance-full-spec =
     tie.close
     (tie.spec
     has-lead-requires

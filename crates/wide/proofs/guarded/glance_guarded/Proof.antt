@@ -1,4 +1,4 @@
--- `wide::glance` is right since a full target and a guard whose rest is known, or lies inside a half, fix the answer. Assumes nothing.
+-- `wide::glance_guarded` is right since a full target and a guard whose rest is known, or lies inside a half, fix the answer. Assumes nothing.
 use mathlib.Core.Path.{sym, _∙_}
 use mathlib.Core.Bool.{true≢false}
 use native.Mathlib.Omega.{arith}
@@ -7,8 +7,8 @@ use Rattle.descent.proofs.AtOnce.{not-true}
 use Rattle.wide.proofs.Unread.{row-read}
 use Rattle.wide.proofs.GuardBelow.{guard-read, guard-inside, reached-more}
 use borrow.Author.Needs.{needs}
-use Rattle.wide.proofs.guarded.glance.Statement.{statement}
-use Rattle.wide.proofs.guarded.glance.Tie as tie
+use Rattle.wide.proofs.guarded.glance_guarded.Statement.{statement}
+use Rattle.wide.proofs.guarded.glance_guarded.Tie as tie
 
 sub-top : tie.Need-sub-top
 sub-top c = omega (arith, room-some _ _ (c .before .pre .0))
@@ -53,8 +53,8 @@ returns-4 c =
     let s = c .before .before .before .before .before .before .before .before in
     λ first second g e o x y h. guard-inside _ _ first second _ _ (s .pre .0) g (omega arith) (λ i. c .before .before .before .before .before .before .before .shared-slice-known .given i .fits) (c .before .before .before .before .before .if1 .left) o x y h (c .before .before .is-inside .ensures (not-true _ (c .before .if3 .left))) _ (c .more-below .ensures (s .pre .2) (sym (c .before .before .before .before .is-read .ensures) ∙ c .before .before .before .if2 .left) (reached-more _ _ _ (g .spent .reached)))
 
-pub glance-spec : {M : Type 1} → statement M
-glance-spec =
+pub glance-guarded-spec : {M : Type 1} → statement M
+glance-guarded-spec =
     tie.close
     (tie.spec
     sub-top
