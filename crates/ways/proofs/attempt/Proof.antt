@@ -1,110 +1,80 @@
--- `ways::attempt` is right since exponents and top limbs tell which operand comes first, and the two may change places. Assumes nothing.
-use mathlib.Core.Path.{refl, sym, _∙_}
-use mathlib.Core.Bool.{true≢false}
-use native.Mathlib.Omega.{arith}
-use mir.Facts.{toZ-ofZ}
-use Rattle.rounding.specs.Mode.{modeOf}
-use Rattle.checks.specs.Number.{operandOf}
-use Rattle.ending.proofs.Handed.{handed-some}
-use Rattle.wide.proofs.InOrder.{gap-some, offered, holding, sign-told, attempted-told}
 use borrow.Author.Needs.{needs}
 use Rattle.ways.proofs.attempt.Statement.{statement}
 use Rattle.ways.proofs.attempt.Tie as tie
+use Rattle.ways.proofs.attempt.Reads as reads
+use Rattle.ways.proofs.attempt.Lts as lts
+use Rattle.aligned.proofs.attempt.Reads as attempt-reads
+use Rattle.checks.proofs.is_zero.Reads as is-zero-reads
+use Rattle.ways.proofs.add_regular.Reads as add-regular-reads
+use Rattle.ways.proofs.is_aligned.Reads as is-aligned-reads
+use Rattle.wide.proofs.nothing.Reads as nothing-reads
 
-sub-u : tie.Need-sub-u
-sub-u c = omega (arith, handed-some (c .before .before .before .args .x) (c .before .before .before .args .xl .now) (c .before .before .before .pre .0))
+-- src/lib.rt:224:8
+is-zero-requires : tie.Need-is-zero-requires
+is-zero-requires c κs = search needs
 
-mul-u : tie.Need-mul-u
-mul-u c = search needs
-
-shared-slice-read-u : tie.Need-shared-slice-read-u
-shared-slice-read-u c = omega (arith, handed-some (c .before .before .before .before .args .x) (c .before .before .before .before .args .xl .now) (c .before .before .before .before .pre .0))
-
-sub-v : tie.Need-sub-v
-sub-v c = omega (arith, handed-some (c .before .before .before .before .args .y) (c .before .before .before .before .args .yl .now) (c .before .before .before .before .pre .2))
-
-mul-v : tie.Need-mul-v
-mul-v c = search needs
-
-shared-slice-read-v : tie.Need-shared-slice-read-v
-shared-slice-read-v c = omega (arith, handed-some (c .before .before .before .before .before .args .y) (c .before .before .before .before .before .args .yl .now) (c .before .before .before .before .before .pre .2))
-
-counted-exponent-requires : tie.Need-counted-exponent-requires
-counted-exponent-requires c κs = search needs
-
-counted-exponent-requires-2 : tie.Need-counted-exponent-requires-2
-counted-exponent-requires-2 c κs = search needs
-
-is-level-requires : tie.Need-is-level-requires
-is-level-requires c κs = search needs
-
+-- src/lib.rt:225:9
 nothing-requires : tie.Need-nothing-requires
 nothing-requires c κs = search needs
 
+-- src/lib.rt:225:9
 returns : tie.Need-returns
-returns c = (refl, λ e. absurd (true≢false (sym (c .nothing .ensures) ∙ e)))
+returns c = search needs
 
-is-second-larger-requires : tie.Need-is-second-larger-requires
-is-second-larger-requires c κs = search needs
+-- src/lib.rt:227:8
+is-zero-requires-2 : tie.Need-is-zero-requires-2
+is-zero-requires-2 c κs = search needs
 
-either-requires : tie.Need-either-requires
-either-requires c κs = search needs
+-- src/lib.rt:228:9
+nothing-requires-2 : tie.Need-nothing-requires-2
+nothing-requires-2 c κs = search needs
 
-either-requires-2 : tie.Need-either-requires-2
-either-requires-2 c κs = search needs
+-- src/lib.rt:228:9
+returns-2 : tie.Need-returns-2
+returns-2 c = search needs
 
-either-requires-3 : tie.Need-either-requires-3
-either-requires-3 c κs = search needs
+-- src/lib.rt:230:8
+is-aligned-requires : tie.Need-is-aligned-requires
+is-aligned-requires c κs = search needs
 
-either-requires-4 : tie.Need-either-requires-4
-either-requires-4 c κs = search needs
+-- src/lib.rt:231:9
+attempt-requires : tie.Need-attempt-requires
+attempt-requires c κs = search needs
 
-sub-t26 : tie.Need-sub-t26
-sub-t26 c =
-    let first = rw (toZ-ofZ (record { sfits = c .before .before .before .before .before .before .before .before .before .before .before .before .struct-told .given .1 .1 .1 .0 .1 })) at (c .before .before .before .before .before .before .before .before .before .before .before .counted-exponent .ensures) in
-    let second = rw (toZ-ofZ (record { sfits = c .before .before .before .before .before .before .before .before .before .before .struct-told2 .given .1 .1 .1 .0 .1 })) at (c .before .before .before .before .before .before .before .before .before .counted-exponent2 .ensures) in
-    gap-some (c .before .before .before .before .before .before .before .before .before .before .before .before .before .before .before .before .before .before .args .x) (c .before .before .before .before .before .before .before .before .before .before .before .before .before .before .before .before .before .before .args .xl .now) (c .before .before .before .before .before .before .before .before .before .before .before .before .before .before .before .before .before .before .args .y) (c .before .before .before .before .before .before .before .before .before .before .before .before .before .before .before .before .before .before .args .yl .now) (c .before .before .before .before .before .before .before .before .before .before .before .before .before .before .before .before .before .before .pre .0) (c .before .before .before .before .before .before .before .before .before .before .before .before .before .before .before .before .before .before .pre .1) (c .before .before .before .before .before .before .before .before .before .before .before .before .before .before .before .before .before .before .pre .2) (c .before .before .before .before .before .before .before .before .before .before .before .before .before .before .before .before .before .before .pre .3) _ _ _ _ first second refl refl (c .before .before .before .before .is-second-larger .result) (c .before .before .before .before .is-second-larger .ensures) (c .before .before .before .before .before .before .is-level .result) (c .before .before .before .before .before .before .is-level .ensures) (c .before .before .before .before .before .if1 .left) _ _ _ _ (c .before .before .before .either .ensures) (c .either4 .ensures) (c .before .before .either2 .ensures) (c .before .either3 .ensures)
-
-either-sign-requires : tie.Need-either-sign-requires
-either-sign-requires c κs = search needs
-
-round-in-order-requires : tie.Need-round-in-order-requires
-round-in-order-requires c κs =
-    let first = rw (toZ-ofZ (record { sfits = c .before .before .before .before .before .before .before .before .before .before .before .before .before .before .struct-told .given .1 .1 .1 .0 .1 })) at (c .before .before .before .before .before .before .before .before .before .before .before .before .before .counted-exponent .ensures) in
-    let second = rw (toZ-ofZ (record { sfits = c .before .before .before .before .before .before .before .before .before .before .before .before .struct-told2 .given .1 .1 .1 .0 .1 })) at (c .before .before .before .before .before .before .before .before .before .before .before .counted-exponent2 .ensures) in
-    (c .before .before .before .before .before .before .before .before .before .before .before .before .before .before .before .before .before .before .before .before .pre .4, offered (c .before .before .before .before .before .before .before .before .before .before .before .before .before .before .before .before .before .before .before .before .args .x) (c .before .before .before .before .before .before .before .before .before .before .before .before .before .before .before .before .before .before .before .before .args .xl .now) (c .before .before .before .before .before .before .before .before .before .before .before .before .before .before .before .before .before .before .before .before .args .y) (c .before .before .before .before .before .before .before .before .before .before .before .before .before .before .before .before .before .before .before .before .args .yl .now) (c .before .before .before .before .before .before .before .before .before .before .before .before .before .before .before .before .before .before .before .before .pre .0) (c .before .before .before .before .before .before .before .before .before .before .before .before .before .before .before .before .before .before .before .before .pre .1) (c .before .before .before .before .before .before .before .before .before .before .before .before .before .before .before .before .before .before .before .before .pre .2) (c .before .before .before .before .before .before .before .before .before .before .before .before .before .before .before .before .before .before .before .before .pre .3) _ _ _ _ first second refl refl (c .before .before .before .before .before .before .is-second-larger .result) (c .before .before .before .before .before .before .is-second-larger .ensures) (c .before .before .before .before .before .before .before .before .is-level .result) (c .before .before .before .before .before .before .before .before .is-level .ensures) (c .before .before .before .before .before .before .before .if1 .left) _ _ _ _ (c .before .before .before .before .before .either .ensures) (c .before .before .either4 .ensures) (c .before .before .before .before .either2 .ensures) (c .before .before .before .either3 .ensures))
-
+-- src/lib.rt:231:9
 same-length : tie.Need-same-length
 same-length c = search needs
 
-returns-2 : tie.Need-returns-2
-returns-2 c =
-    let first = rw (toZ-ofZ (record { sfits = c .before .before .before .before .before .before .before .before .before .before .before .before .before .before .before .before .before .struct-told .given .1 .1 .1 .0 .1 })) at (c .before .before .before .before .before .before .before .before .before .before .before .before .before .before .before .before .counted-exponent .ensures) in
-    let second = rw (toZ-ofZ (record { sfits = c .before .before .before .before .before .before .before .before .before .before .before .before .before .before .before .struct-told2 .given .1 .1 .1 .0 .1 })) at (c .before .before .before .before .before .before .before .before .before .before .before .before .before .before .counted-exponent2 .ensures) in
-    (c .before .target .given, λ e. attempted-told (modeOf (c .before .before .before .before .before .before .before .before .before .before .before .before .before .before .before .before .before .before .before .before .before .before .before .args .mode)) (c .before .before .before .before .before .before .before .before .before .before .before .before .before .before .before .before .before .before .before .before .before .before .before .args .p) _ (c .before .before .before .before .before .before .before .before .before .before .before .before .before .before .before .before .before .before .before .before .before .before .before .pre .4) (operandOf (c .before .before .before .before .before .before .before .before .before .before .before .before .before .before .before .before .before .before .before .before .before .before .before .args .x) (c .before .before .before .before .before .before .before .before .before .before .before .before .before .before .before .before .before .before .before .before .before .before .before .args .xl .now)) (operandOf (c .before .before .before .before .before .before .before .before .before .before .before .before .before .before .before .before .before .before .before .before .before .before .before .args .y) (c .before .before .before .before .before .before .before .before .before .before .before .before .before .before .before .before .before .before .before .before .before .before .before .args .yl .now)) (c .before .before .before .before .before .before .before .before .before .before .before .before .before .before .before .before .before .before .before .before .before .before .before .pre .1) (c .before .before .before .before .before .before .before .before .before .before .before .before .before .before .before .before .before .before .before .before .before .before .before .pre .3) (c .before .before .before .before .before .before .before .before .before .is-second-larger .result) _ _ _ _ (c .before .before .round-in-order .result .first) (c .before .before .round-in-order .result .second) (c .before .before .round-in-order .ensures .1 e _ _ (holding (c .before .before .before .before .before .before .before .before .before .before .before .before .before .before .before .before .before .before .before .before .before .before .before .args .x) (c .before .before .before .before .before .before .before .before .before .before .before .before .before .before .before .before .before .before .before .before .before .before .before .args .xl .now) (c .before .before .before .before .before .before .before .before .before .before .before .before .before .before .before .before .before .before .before .before .before .before .before .args .y) (c .before .before .before .before .before .before .before .before .before .before .before .before .before .before .before .before .before .before .before .before .before .before .before .args .yl .now) (c .before .before .before .before .before .before .before .before .before .before .before .before .before .before .before .before .before .before .before .before .before .before .before .pre .0) (c .before .before .before .before .before .before .before .before .before .before .before .before .before .before .before .before .before .before .before .before .before .before .before .pre .1) (c .before .before .before .before .before .before .before .before .before .before .before .before .before .before .before .before .before .before .before .before .before .before .before .pre .2) (c .before .before .before .before .before .before .before .before .before .before .before .before .before .before .before .before .before .before .before .before .before .before .before .pre .3) _ _ _ _ first second refl refl (c .before .before .before .before .before .before .before .before .before .is-second-larger .result) (c .before .before .before .before .before .before .before .before .before .is-second-larger .ensures) (c .before .before .before .before .before .before .before .before .before .before .before .is-level .result) (c .before .before .before .before .before .before .before .before .before .before .before .is-level .ensures) (c .before .before .before .before .before .before .before .before .before .before .if1 .left) _ _ _ _ (c .before .before .before .before .before .before .before .before .either .ensures) (c .before .before .before .before .before .either4 .ensures) (c .before .before .before .before .before .before .before .either2 .ensures) (c .before .before .before .before .before .before .either3 .ensures)) (sign-told (c .before .before .before .before .before .before .before .before .before .before .before .before .before .before .before .before .before .before .before .before .before .before .before .args .x) (c .before .before .before .before .before .before .before .before .before .before .before .before .before .before .before .before .before .before .before .before .before .before .before .args .xl .now) (c .before .before .before .before .before .before .before .before .before .before .before .before .before .before .before .before .before .before .before .before .before .before .before .args .y) (c .before .before .before .before .before .before .before .before .before .before .before .before .before .before .before .before .before .before .before .before .before .before .before .args .yl .now) (c .before .before .before .before .before .before .before .before .before .before .before .before .before .before .before .before .before .before .before .before .before .before .before .pre .0) (c .before .before .before .before .before .before .before .before .before .before .before .before .before .before .before .before .before .before .before .before .before .before .before .pre .1) (c .before .before .before .before .before .before .before .before .before .before .before .before .before .before .before .before .before .before .before .before .before .before .before .pre .2) (c .before .before .before .before .before .before .before .before .before .before .before .before .before .before .before .before .before .before .before .before .before .before .before .pre .3) _ _ _ _ first second refl refl (c .before .before .before .before .before .before .before .before .before .is-second-larger .result) (c .before .before .before .before .before .before .before .before .before .is-second-larger .ensures) (c .before .before .before .before .before .before .before .before .before .before .before .is-level .result) (c .before .before .before .before .before .before .before .before .before .before .before .is-level .ensures) (c .before .before .before .before .before .before .before .before .before .before .if1 .left) _ (c .before .before .before .before .either-sign .ensures))))
+-- src/lib.rt:231:9
+returns-3 : tie.Need-returns-3
+returns-3 c = search needs
+
+-- src/lib.rt:233:5
+add-regular-requires : tie.Need-add-regular-requires
+add-regular-requires c κs = search needs
+
+-- src/lib.rt:212:1
+same-length-2 : tie.Need-same-length-2
+same-length-2 c = search needs
+
+-- src/lib.rt:212:1
+returns-4 : tie.Need-returns-4
+returns-4 c = search needs
 
 pub attempt-spec : {M : Type 1} → statement M
 attempt-spec =
     tie.close
     (tie.spec
-    sub-u
-    mul-u
-    shared-slice-read-u
-    sub-v
-    mul-v
-    shared-slice-read-v
-    counted-exponent-requires
-    counted-exponent-requires-2
-    is-level-requires
+    is-zero-requires
     nothing-requires
     returns
-    is-second-larger-requires
-    either-requires
-    either-requires-2
-    either-requires-3
-    either-requires-4
-    sub-t26
-    either-sign-requires
-    round-in-order-requires
+    is-zero-requires-2
+    nothing-requires-2
+    returns-2
+    is-aligned-requires
+    attempt-requires
     same-length
-    returns-2)
+    returns-3
+    add-regular-requires
+    same-length-2
+    returns-4)
