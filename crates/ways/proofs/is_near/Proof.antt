@@ -1,12 +1,10 @@
-use borrow.Author.Needs.{needs}
+-- `ways::is_near`: all tests hold. Assumes nothing.
+use Rattle.ways.proofs.Chosen.{near-told}
 use Rattle.ways.proofs.is_near.Statement.{statement}
 use Rattle.ways.proofs.is_near.Tie as tie
-use Rattle.ways.proofs.is_near.Reads as reads
-use Rattle.ways.proofs.is_near.Lts as lts
 
--- src/lib.rt:70:1
 returns : tie.Need-returns
-returns c = search needs
+returns c = near-told (c .before .before .args .first) (c .before .before .args .second) (c .before .before .args .n) (c .before .before .args .pair .gap)
 
 pub is-near-spec : {M : Type 1} → statement M
 is-near-spec = tie.close (tie.spec returns)
