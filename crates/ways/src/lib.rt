@@ -1,6 +1,7 @@
 // A sum of two regular numbers in any order, read at once: which of them comes first, and in which way it is read.
 ghost use mathlib.Core.Path.{_≡_};
 ghost use mathlib.Core.Bool.{true, false, not, cond, _&&_, _||_};
+ghost use Prim.Native.Nat.{_+_, _*_, _^_, _≤_, _<_};
 ghost use lib.Dec.{ltb, eqb};
 ghost use lib.ListN.{length};
 ghost use Rattle.numbers.specs.Operand.{Operand, WellFormed};
@@ -29,6 +30,13 @@ fn either_sign(second: bool, a: bool, b: bool) -> bool
     if second { b } else { a }
 }
 
+// The first of two runs, or the second.
+fn either_run<'a>(second: bool, a: &'a [u64], b: &'a [u64]) -> &'a [u64]
+    ensures { λ r. ⌜ now r ≡ cond second (now (b .entry)) (now (a .entry)) ⌝ }
+{
+    if second { b } else { a }
+}
+
 // Whether the second of two operands is larger, as far as exponents and top limbs tell.
 fn is_second_larger(a: u64, b: u64, u: u64, v: u64) -> bool
     ensures { λ r. ⌜ r ≡ (ltb a b || (eqb a b && ltb u v)) ⌝ }
@@ -43,39 +51,58 @@ fn is_level(same: bool, a: u64, b: u64, u: u64, v: u64) -> bool
     !same & ((a == b) & (u == v))
 }
 
-// Fills the target, the second operand first where so said.
-fn fill_in_order(
-    p: u64,
-    pair: Pair,
-    swapped: bool,
-    xl: &[u64],
-    yl: &[u64],
-    target: &mut [u64],
-) -> Filled
-    requires { ⌜ Room p (length (now target)) × Offered pair (cond swapped (now yl) (now xl)) (cond swapped (now xl) (now yl)) ⌝ }
-    ensures { λ r. ⌜ (length (now (target .exit)) ≡ length (now (target .entry))) × Fills p pair (cond swapped (now (yl .entry)) (now (xl .entry))) (cond swapped (now (xl .entry)) (now (yl .entry))) (now (target .exit)) r ⌝ }
+// Whether two numbers have one exponent, and each as many limbs as the target.
+fn is_aligned(x: Number, m: usize, y: Number, k: usize, n: usize) -> bool
+    ensures { λ r. ⌜ (r ≡ true → (x .exponent ≡ y .exponent) × (m ≡ n) × (k ≡ n)) ⌝ }
 {
-    if swapped {
-        return wide::fill(p, pair, yl, xl, target);
+    (x.exponent == y.exponent) & (m == n) & (k == n)
+}
+
+// Whether the first operand has as many limbs as the target, and the second begins below them and more than a digit below those asked for.
+fn is_far(p: u64, pair: Pair, first: usize, n: usize) -> bool
+    requires { ⌜ (p + 1 < 2 ^ 64) × (64 * n < 2 ^ 64) ⌝ }
+    ensures { λ r. ⌜ (r ≡ true → (first ≡ n) × (64 * n ≤ pair .gap) × (p + 1 < pair .gap)) ⌝ }
+{
+    (first == n) & (64 * (n as u64) <= pair.gap) & (p + 1 < pair.gap)
+}
+
+// Whether both have as many limbs as the target, and the second begins in the first column, but not at its top.
+fn is_near(pair: Pair, first: usize, second: usize, n: usize) -> bool
+    ensures { λ r. ⌜ (r ≡ true → (first ≡ n) × (second ≡ n) × (0 < pair .gap) × (pair .gap < 64)) ⌝ }
+{
+    (first == n) & (second == n) & (0 < pair.gap) & (pair.gap < 64)
+}
+
+// The same with the counts exchanged, where so said.
+fn exchanged_if(swapped: bool, r: Wide) -> Wide
+    ensures { λ s. ⌜ (s .open ≡ r .open) × (s .negative ≡ r .negative) × (s .placed ≡ r .placed) × (s .depth ≡ r .depth) × (s .first ≡ cond swapped (r .second) (r .first)) × (s .second ≡ cond swapped (r .first) (r .second)) ⌝ }
+{
+    let placed = r.placed;
+    Wide {
+        open: r.open,
+        negative: r.negative,
+        placed: placed,
+        depth: r.depth,
+        first: either(swapped, r.first, r.second),
+        second: either(swapped, r.second, r.first),
     }
-    wide::fill(p, pair, xl, yl, target)
 }
 
 // Rounds what fills the target.
-fn round_in_order(
+fn round_filled(
     mode: u8,
     negative: bool,
     p: u64,
     pair: Pair,
     swapped: bool,
-    xl: &[u64],
-    yl: &[u64],
+    first: &[u64],
+    second: &[u64],
     target: &mut [u64],
 ) -> Wide
-    requires { ⌜ Room p (length (now target)) × Offered pair (cond swapped (now yl) (now xl)) (cond swapped (now xl) (now yl)) ⌝ }
-    ensures { λ r. ⌜ (length (now (target .exit)) ≡ length (now (target .entry))) × (r .open ≡ false → (z w : Operand) → Holding z w pair (cond swapped (now (yl .entry)) (now (xl .entry))) (cond swapped (now (xl .entry)) (now (yl .entry))) → negative ≡ z .negative → Attempted (modeOf mode) p z w (now (target .exit)) (r .negative) (r .placed) (r .depth) (cond swapped (r .second) (r .first)) (cond swapped (r .first) (r .second))) ⌝ }
+    requires { ⌜ Room p (length (now target)) × Offered pair (now first) (now second) ⌝ }
+    ensures { λ r. ⌜ (length (now (target .exit)) ≡ length (now (target .entry))) × (r .open ≡ false → (z w : Operand) → Holding z w pair (now (first .entry)) (now (second .entry)) → negative ≡ z .negative → Attempted (modeOf mode) p z w (now (target .exit)) (r .negative) (r .placed) (r .depth) (cond swapped (r .second) (r .first)) (cond swapped (r .first) (r .second))) ⌝ }
 {
-    let filled = fill_in_order(p, pair, swapped, xl, yl, target);
+    let filled = wide::fill(p, pair, first, second, target);
     if filled.open {
         return nothing();
     }
@@ -90,23 +117,70 @@ fn round_in_order(
         p,
         mode,
     );
+    let upper = reports::used(k, 0, first.len());
+    let lower = reports::used(k, pair.gap, second.len());
     Wide {
         open: false,
         negative: negative,
         placed: placed,
         depth: k,
-        first: reports::used(k, either(swapped, 0, pair.gap), xl.len()),
-        second: reports::used(k, either(swapped, pair.gap, 0), yl.len()),
+        first: either(swapped, upper, lower),
+        second: either(swapped, lower, upper),
     }
 }
 
+// Reads two operands in order, in the shortest of the ways that fit them.
+fn read_in_order(
+    mode: u8,
+    negative: bool,
+    p: u64,
+    pair: Pair,
+    swapped: bool,
+    first: &[u64],
+    second: &[u64],
+    target: &mut [u64],
+) -> Wide
+    requires { ⌜ Room p (length (now target)) × Offered pair (now first) (now second) ⌝ }
+    ensures { λ r. ⌜ (length (now (target .exit)) ≡ length (now (target .entry))) × (r .open ≡ false → (z w : Operand) → Holding z w pair (now (first .entry)) (now (second .entry)) → negative ≡ z .negative → Attempted (modeOf mode) p z w (now (target .exit)) (r .negative) (r .placed) (r .depth) (cond swapped (r .second) (r .first)) (cond swapped (r .first) (r .second))) ⌝ }
+{
+    if is_near(pair, first.len(), second.len(), target.len()) {
+        return exchanged_if(
+            swapped,
+            near::attempt(mode, negative, p, pair, first, second, target),
+        );
+    }
+    if is_far(p, pair, first.len(), target.len()) {
+        return far::attempt(mode, negative, p, pair, swapped, first, second, target);
+    }
+    round_filled(mode, negative, p, pair, swapped, first, second, target)
+}
+
+// The same in the order of the caller.
+fn read_as_said<'a>(
+    mode: u8,
+    negative: bool,
+    p: u64,
+    pair: Pair,
+    swapped: bool,
+    xl: &'a [u64],
+    yl: &'a [u64],
+    target: &mut [u64],
+) -> Wide
+    requires { ⌜ Room p (length (now target)) × Offered pair (cond swapped (now yl) (now xl)) (cond swapped (now xl) (now yl)) ⌝ }
+    ensures { λ r. ⌜ (length (now (target .exit)) ≡ length (now (target .entry))) × (r .open ≡ false → (z w : Operand) → Holding z w pair (cond swapped (now (yl .entry)) (now (xl .entry))) (cond swapped (now (xl .entry)) (now (yl .entry))) → negative ≡ z .negative → Attempted (modeOf mode) p z w (now (target .exit)) (r .negative) (r .placed) (r .depth) (cond swapped (r .second) (r .first)) (cond swapped (r .first) (r .second))) ⌝ }
+{
+    let first = either_run(swapped, xl, yl);
+    let second = either_run(swapped, yl, xl);
+    read_in_order(mode, negative, p, pair, swapped, first, second, target)
+}
+
 // Adds two regular numbers, where the columns that fill the target, or one more, fix the answer.
-pub fn attempt(
+fn add_regular<'a>(
     mode: u8,
     x: Number,
-    xl: &[u64],
+    xl: &'a [u64],
     y: Number,
-    yl: &[u64],
+    yl: &'a [u64],
     p: u64,
     target: &mut [u64],
 ) -> Wide
@@ -131,5 +205,30 @@ pub fn attempt(
         top: top,
     };
     let negative = either_sign(swapped, x.negative, y.negative);
-    round_in_order(mode, negative, p, pair, swapped, xl, yl, target)
+    read_as_said(mode, negative, p, pair, swapped, xl, yl, target)
+}
+
+// Adds two numbers, where the columns that fill the target, or one more, fix the answer. Where one is zero it is left open.
+pub fn attempt<'a>(
+    mode: u8,
+    x: Number,
+    xl: &'a [u64],
+    y: Number,
+    yl: &'a [u64],
+    p: u64,
+    target: &mut [u64],
+) -> Wide
+    requires { ⌜ WellFormed (operandOf x (now xl)) × WellFormed (operandOf y (now yl)) × Room p (length (now target)) ⌝ }
+    ensures { λ r. ⌜ (length (now (target .exit)) ≡ length (now (target .entry))) × (r .open ≡ false → Attempted (modeOf mode) p (operandOf x (now (xl .entry))) (operandOf y (now (yl .entry))) (now (target .exit)) (r .negative) (r .placed) (r .depth) (r .first) (r .second)) ⌝ }
+{
+    if checks::is_zero(x) {
+        return nothing();
+    }
+    if checks::is_zero(y) {
+        return nothing();
+    }
+    if is_aligned(x, xl.len(), y, yl.len(), target.len()) {
+        return aligned::attempt(mode, x, xl, y, yl, p, target);
+    }
+    add_regular(mode, x, xl, y, yl, p, target)
 }

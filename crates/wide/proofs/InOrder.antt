@@ -45,14 +45,6 @@ use Rattle.reports.specs.Counts.{usedOf}
 use Rattle.reports.proofs.Counts.{used-is}
 use Rattle.wide.specs.Attempted.{Attempted}
 
--- ---- the limbs used
-
--- the counts of two operands, in their own order and in that of the pair
-pub counted-in-order : (s : Bool) (k gap c d i j : ℕ) (xl yl : List ℕ) → c ≡ cond s gap 0 → d ≡ cond s 0 gap → i ≡ usedOf k c (length xl) → j ≡ usedOf k d (length yl)
-    → (cond s j i ≡ usedOf k 0 (length (cond s yl xl))) × (cond s i j ≡ usedOf k gap (length (cond s xl yl)))
-counted-in-order true k gap c d i j xl yl e f g h = (h ∙ ap (λ (m : ℕ). usedOf k m (length yl)) f, g ∙ ap (λ (m : ℕ). usedOf k m (length xl)) e)
-counted-in-order false k gap c d i j xl yl e f g h = (g ∙ ap (λ (m : ℕ). usedOf k m (length xl)) e, h ∙ ap (λ (m : ℕ). usedOf k m (length yl)) f)
-
 -- ---- which of two operands comes first
 
 module _ (x y : Operand) (g : WellFormed x) (h : WellFormed y) (r : x .isZero ≡ false) (e : y .isZero ≡ false) (order : y .exponent ≤ x .exponent)
@@ -240,13 +232,7 @@ module _ (mode p : ℕ) (pair : Pair) (first second t : List ℕ) (f : Filled) (
         apart : (n : ℕ) → 0 ≡ n - n
         apart n = omega arith
 
--- ---- as the code finds it
-
-pub offered-as : (c : Bool) {s : Bool} {pair : Pair} (xl yl : List ℕ) → s ≡ c → Offered pair (cond s yl xl) (cond s xl yl) → Offered pair (cond c yl xl) (cond c xl yl)
-offered-as c {s} {pair} xl yl e o = subst (λ (b : Bool). Offered pair (cond b yl xl) (cond b xl yl)) e o
-
-pub fills-as : (c : Bool) {s : Bool} {p : ℕ} {pair : Pair} (xl yl : List ℕ) {t : List ℕ} {f : Filled} → s ≡ c → Fills p pair (cond c yl xl) (cond c xl yl) t f → Fills p pair (cond s yl xl) (cond s xl yl) t f
-fills-as c {s} {p} {pair} xl yl {t} {f} e o = subst (λ (b : Bool). Fills p pair (cond b yl xl) (cond b xl yl) t f) (sym e) o
+-- ---- what the code asks
 
 pub limbs-weigh : (p n : ℕ) → Room p n → 64 * (n + 1) < 2 ^ 64
 unfolding limbsFor mostPrecision

@@ -1,42 +1,13 @@
--- `ways::attempt` is right since exponents and top limbs tell which operand comes first, and the two may change places. Assumes nothing.
+-- `ways::attempt` is right since a zero is left open, and two regular numbers are read in a way that their tests fit. Assumes nothing.
 use mathlib.Core.Path.{refl, sym, _∙_}
 use mathlib.Core.Bool.{true≢false}
-use native.Mathlib.Omega.{arith}
-use mir.Facts.{toZ-ofZ}
-use Rattle.rounding.specs.Mode.{modeOf}
-use Rattle.checks.specs.Number.{operandOf}
-use Rattle.ending.proofs.Handed.{handed-some}
-use Rattle.wide.proofs.InOrder.{gap-some, offered, holding, sign-told, attempted-told}
+use Rattle.ways.proofs.Chosen.{kind-told}
 use borrow.Author.Needs.{needs}
 use Rattle.ways.proofs.attempt.Statement.{statement}
 use Rattle.ways.proofs.attempt.Tie as tie
 
-sub-u : tie.Need-sub-u
-sub-u c = omega (arith, handed-some (c .before .before .before .args .x) (c .before .before .before .args .xl .now) (c .before .before .before .pre .0))
-
-mul-u : tie.Need-mul-u
-mul-u c = search needs
-
-shared-slice-read-u : tie.Need-shared-slice-read-u
-shared-slice-read-u c = omega (arith, handed-some (c .before .before .before .before .args .x) (c .before .before .before .before .args .xl .now) (c .before .before .before .before .pre .0))
-
-sub-v : tie.Need-sub-v
-sub-v c = omega (arith, handed-some (c .before .before .before .before .args .y) (c .before .before .before .before .args .yl .now) (c .before .before .before .before .pre .2))
-
-mul-v : tie.Need-mul-v
-mul-v c = search needs
-
-shared-slice-read-v : tie.Need-shared-slice-read-v
-shared-slice-read-v c = omega (arith, handed-some (c .before .before .before .before .before .args .y) (c .before .before .before .before .before .args .yl .now) (c .before .before .before .before .before .pre .2))
-
-counted-exponent-requires : tie.Need-counted-exponent-requires
-counted-exponent-requires c κs = search needs
-
-counted-exponent-requires-2 : tie.Need-counted-exponent-requires-2
-counted-exponent-requires-2 c κs = search needs
-
-is-level-requires : tie.Need-is-level-requires
-is-level-requires c κs = search needs
+is-zero-requires : tie.Need-is-zero-requires
+is-zero-requires c κs = search needs
 
 nothing-requires : tie.Need-nothing-requires
 nothing-requires c κs = search needs
@@ -44,67 +15,35 @@ nothing-requires c κs = search needs
 returns : tie.Need-returns
 returns c = (refl, λ e. absurd (true≢false (sym (c .nothing .ensures) ∙ e)))
 
-is-second-larger-requires : tie.Need-is-second-larger-requires
-is-second-larger-requires c κs = search needs
+is-zero-requires-2 : tie.Need-is-zero-requires-2
+is-zero-requires-2 c κs = search needs
 
-either-requires : tie.Need-either-requires
-either-requires c κs = search needs
+nothing-requires-2 : tie.Need-nothing-requires-2
+nothing-requires-2 c κs = search needs
 
-either-requires-2 : tie.Need-either-requires-2
-either-requires-2 c κs = search needs
+returns-2 : tie.Need-returns-2
+returns-2 c = (refl, λ e. absurd (true≢false (sym (c .nothing2 .ensures) ∙ e)))
 
-either-requires-3 : tie.Need-either-requires-3
-either-requires-3 c κs = search needs
+is-aligned-requires : tie.Need-is-aligned-requires
+is-aligned-requires c κs = search needs
 
-either-requires-4 : tie.Need-either-requires-4
-either-requires-4 c κs = search needs
-
-sub-t26 : tie.Need-sub-t26
-sub-t26 c =
-    let first = rw (toZ-ofZ (record { sfits = c .before .before .before .before .before .before .before .before .before .before .before .before .struct-told .given .1 .1 .1 .0 .1 })) at (c .before .before .before .before .before .before .before .before .before .before .before .counted-exponent .ensures) in
-    let second = rw (toZ-ofZ (record { sfits = c .before .before .before .before .before .before .before .before .before .before .struct-told2 .given .1 .1 .1 .0 .1 })) at (c .before .before .before .before .before .before .before .before .before .counted-exponent2 .ensures) in
-    gap-some (c .before .before .before .before .before .before .before .before .before .before .before .before .before .before .before .before .before .before .args .x) (c .before .before .before .before .before .before .before .before .before .before .before .before .before .before .before .before .before .before .args .xl .now) (c .before .before .before .before .before .before .before .before .before .before .before .before .before .before .before .before .before .before .args .y) (c .before .before .before .before .before .before .before .before .before .before .before .before .before .before .before .before .before .before .args .yl .now) (c .before .before .before .before .before .before .before .before .before .before .before .before .before .before .before .before .before .before .pre .0) (c .before .before .before .before .before .before .before .before .before .before .before .before .before .before .before .before .before .before .pre .1) (c .before .before .before .before .before .before .before .before .before .before .before .before .before .before .before .before .before .before .pre .2) (c .before .before .before .before .before .before .before .before .before .before .before .before .before .before .before .before .before .before .pre .3) _ _ _ _ first second refl refl (c .before .before .before .before .is-second-larger .result) (c .before .before .before .before .is-second-larger .ensures) (c .before .before .before .before .before .before .is-level .result) (c .before .before .before .before .before .before .is-level .ensures) (c .before .before .before .before .before .if1 .left) _ _ _ _ (c .before .before .before .either .ensures) (c .either4 .ensures) (c .before .before .either2 .ensures) (c .before .either3 .ensures)
-
-either-sign-requires : tie.Need-either-sign-requires
-either-sign-requires c κs = search needs
-
-round-in-order-requires : tie.Need-round-in-order-requires
-round-in-order-requires c κs =
-    let first = rw (toZ-ofZ (record { sfits = c .before .before .before .before .before .before .before .before .before .before .before .before .before .before .struct-told .given .1 .1 .1 .0 .1 })) at (c .before .before .before .before .before .before .before .before .before .before .before .before .before .counted-exponent .ensures) in
-    let second = rw (toZ-ofZ (record { sfits = c .before .before .before .before .before .before .before .before .before .before .before .before .struct-told2 .given .1 .1 .1 .0 .1 })) at (c .before .before .before .before .before .before .before .before .before .before .before .counted-exponent2 .ensures) in
-    (c .before .before .before .before .before .before .before .before .before .before .before .before .before .before .before .before .before .before .before .before .pre .4, offered (c .before .before .before .before .before .before .before .before .before .before .before .before .before .before .before .before .before .before .before .before .args .x) (c .before .before .before .before .before .before .before .before .before .before .before .before .before .before .before .before .before .before .before .before .args .xl .now) (c .before .before .before .before .before .before .before .before .before .before .before .before .before .before .before .before .before .before .before .before .args .y) (c .before .before .before .before .before .before .before .before .before .before .before .before .before .before .before .before .before .before .before .before .args .yl .now) (c .before .before .before .before .before .before .before .before .before .before .before .before .before .before .before .before .before .before .before .before .pre .0) (c .before .before .before .before .before .before .before .before .before .before .before .before .before .before .before .before .before .before .before .before .pre .1) (c .before .before .before .before .before .before .before .before .before .before .before .before .before .before .before .before .before .before .before .before .pre .2) (c .before .before .before .before .before .before .before .before .before .before .before .before .before .before .before .before .before .before .before .before .pre .3) _ _ _ _ first second refl refl (c .before .before .before .before .before .before .is-second-larger .result) (c .before .before .before .before .before .before .is-second-larger .ensures) (c .before .before .before .before .before .before .before .before .is-level .result) (c .before .before .before .before .before .before .before .before .is-level .ensures) (c .before .before .before .before .before .before .before .if1 .left) _ _ _ _ (c .before .before .before .before .before .either .ensures) (c .before .before .either4 .ensures) (c .before .before .before .before .either2 .ensures) (c .before .before .before .either3 .ensures))
+attempt-requires : tie.Need-attempt-requires
+attempt-requires c κs = let t = c .before .before .is-aligned .ensures (c .before .if3 .taken) in (c .before .before .before .before .before .before .before .before .before .before .pre .0, kind-told (c .before .before .before .before .before .before .before .before .before .before .args .x) (c .before .before .before .before .before .before .before .before .before .before .args .xl .now) (c .before .before .before .before .before .before .is-zero .ensures) (c .before .before .before .before .before .if1 .left), c .before .before .before .before .before .before .before .before .before .before .pre .1, kind-told (c .before .before .before .before .before .before .before .before .before .before .args .y) (c .before .before .before .before .before .before .before .before .before .before .args .yl .now) (c .before .before .before .before .is-zero2 .ensures) (c .before .before .before .if2 .left), t .0, t .1, t .2, c .before .before .before .before .before .before .before .before .before .before .pre .2)
 
 same-length : tie.Need-same-length
 same-length c = search needs
 
-returns-2 : tie.Need-returns-2
-returns-2 c =
-    let first = rw (toZ-ofZ (record { sfits = c .before .before .before .before .before .before .before .before .before .before .before .before .before .before .before .before .before .struct-told .given .1 .1 .1 .0 .1 })) at (c .before .before .before .before .before .before .before .before .before .before .before .before .before .before .before .before .counted-exponent .ensures) in
-    let second = rw (toZ-ofZ (record { sfits = c .before .before .before .before .before .before .before .before .before .before .before .before .before .before .before .struct-told2 .given .1 .1 .1 .0 .1 })) at (c .before .before .before .before .before .before .before .before .before .before .before .before .before .before .counted-exponent2 .ensures) in
-    (c .before .target .given, λ e. attempted-told (modeOf (c .before .before .before .before .before .before .before .before .before .before .before .before .before .before .before .before .before .before .before .before .before .before .before .args .mode)) (c .before .before .before .before .before .before .before .before .before .before .before .before .before .before .before .before .before .before .before .before .before .before .before .args .p) _ (c .before .before .before .before .before .before .before .before .before .before .before .before .before .before .before .before .before .before .before .before .before .before .before .pre .4) (operandOf (c .before .before .before .before .before .before .before .before .before .before .before .before .before .before .before .before .before .before .before .before .before .before .before .args .x) (c .before .before .before .before .before .before .before .before .before .before .before .before .before .before .before .before .before .before .before .before .before .before .before .args .xl .now)) (operandOf (c .before .before .before .before .before .before .before .before .before .before .before .before .before .before .before .before .before .before .before .before .before .before .before .args .y) (c .before .before .before .before .before .before .before .before .before .before .before .before .before .before .before .before .before .before .before .before .before .before .before .args .yl .now)) (c .before .before .before .before .before .before .before .before .before .before .before .before .before .before .before .before .before .before .before .before .before .before .before .pre .1) (c .before .before .before .before .before .before .before .before .before .before .before .before .before .before .before .before .before .before .before .before .before .before .before .pre .3) (c .before .before .before .before .before .before .before .before .before .is-second-larger .result) _ _ _ _ (c .before .before .round-in-order .result .first) (c .before .before .round-in-order .result .second) (c .before .before .round-in-order .ensures .1 e _ _ (holding (c .before .before .before .before .before .before .before .before .before .before .before .before .before .before .before .before .before .before .before .before .before .before .before .args .x) (c .before .before .before .before .before .before .before .before .before .before .before .before .before .before .before .before .before .before .before .before .before .before .before .args .xl .now) (c .before .before .before .before .before .before .before .before .before .before .before .before .before .before .before .before .before .before .before .before .before .before .before .args .y) (c .before .before .before .before .before .before .before .before .before .before .before .before .before .before .before .before .before .before .before .before .before .before .before .args .yl .now) (c .before .before .before .before .before .before .before .before .before .before .before .before .before .before .before .before .before .before .before .before .before .before .before .pre .0) (c .before .before .before .before .before .before .before .before .before .before .before .before .before .before .before .before .before .before .before .before .before .before .before .pre .1) (c .before .before .before .before .before .before .before .before .before .before .before .before .before .before .before .before .before .before .before .before .before .before .before .pre .2) (c .before .before .before .before .before .before .before .before .before .before .before .before .before .before .before .before .before .before .before .before .before .before .before .pre .3) _ _ _ _ first second refl refl (c .before .before .before .before .before .before .before .before .before .is-second-larger .result) (c .before .before .before .before .before .before .before .before .before .is-second-larger .ensures) (c .before .before .before .before .before .before .before .before .before .before .before .is-level .result) (c .before .before .before .before .before .before .before .before .before .before .before .is-level .ensures) (c .before .before .before .before .before .before .before .before .before .before .if1 .left) _ _ _ _ (c .before .before .before .before .before .before .before .before .either .ensures) (c .before .before .before .before .before .either4 .ensures) (c .before .before .before .before .before .before .before .either2 .ensures) (c .before .before .before .before .before .before .either3 .ensures)) (sign-told (c .before .before .before .before .before .before .before .before .before .before .before .before .before .before .before .before .before .before .before .before .before .before .before .args .x) (c .before .before .before .before .before .before .before .before .before .before .before .before .before .before .before .before .before .before .before .before .before .before .before .args .xl .now) (c .before .before .before .before .before .before .before .before .before .before .before .before .before .before .before .before .before .before .before .before .before .before .before .args .y) (c .before .before .before .before .before .before .before .before .before .before .before .before .before .before .before .before .before .before .before .before .before .before .before .args .yl .now) (c .before .before .before .before .before .before .before .before .before .before .before .before .before .before .before .before .before .before .before .before .before .before .before .pre .0) (c .before .before .before .before .before .before .before .before .before .before .before .before .before .before .before .before .before .before .before .before .before .before .before .pre .1) (c .before .before .before .before .before .before .before .before .before .before .before .before .before .before .before .before .before .before .before .before .before .before .before .pre .2) (c .before .before .before .before .before .before .before .before .before .before .before .before .before .before .before .before .before .before .before .before .before .before .before .pre .3) _ _ _ _ first second refl refl (c .before .before .before .before .before .before .before .before .before .is-second-larger .result) (c .before .before .before .before .before .before .before .before .before .is-second-larger .ensures) (c .before .before .before .before .before .before .before .before .before .before .before .is-level .result) (c .before .before .before .before .before .before .before .before .before .before .before .is-level .ensures) (c .before .before .before .before .before .before .before .before .before .before .if1 .left) _ (c .before .before .before .before .either-sign .ensures))))
+returns-3 : tie.Need-returns-3
+returns-3 c = search needs
+
+add-regular-requires : tie.Need-add-regular-requires
+add-regular-requires c κs = (c .before .before .before .before .before .before .before .before .before .before .pre .0, kind-told (c .before .before .before .before .before .before .before .before .before .before .args .x) (c .before .before .before .before .before .before .before .before .before .before .args .xl .now) (c .before .before .before .before .before .before .is-zero .ensures) (c .before .before .before .before .before .if1 .left), c .before .before .before .before .before .before .before .before .before .before .pre .1, kind-told (c .before .before .before .before .before .before .before .before .before .before .args .y) (c .before .before .before .before .before .before .before .before .before .before .args .yl .now) (c .before .before .before .before .is-zero2 .ensures) (c .before .before .before .if2 .left), c .before .before .before .before .before .before .before .before .before .before .pre .2)
+
+same-length-2 : tie.Need-same-length-2
+same-length-2 c = search needs
+
+returns-4 : tie.Need-returns-4
+returns-4 c = search needs
 
 pub attempt-spec : {M : Type 1} → statement M
-attempt-spec =
-    tie.close
-    (tie.spec
-    sub-u
-    mul-u
-    shared-slice-read-u
-    sub-v
-    mul-v
-    shared-slice-read-v
-    counted-exponent-requires
-    counted-exponent-requires-2
-    is-level-requires
-    nothing-requires
-    returns
-    is-second-larger-requires
-    either-requires
-    either-requires-2
-    either-requires-3
-    either-requires-4
-    sub-t26
-    either-sign-requires
-    round-in-order-requires
-    same-length
-    returns-2)
+attempt-spec = tie.close (tie.spec is-zero-requires nothing-requires returns is-zero-requires-2 nothing-requires-2 returns-2 is-aligned-requires attempt-requires same-length returns-3 add-regular-requires same-length-2 returns-4)

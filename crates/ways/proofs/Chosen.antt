@@ -1,0 +1,77 @@
+-- What the tests tell of two operands, and their limbs and counts in either order. Assumes nothing.
+use mathlib.Core.Path.{_≡_, refl, sym, ap, _∙_}
+use mathlib.Core.Bool.{Bool, true, false, cond, _&&_}
+use mathlib.Core.List.{List}
+use Prim.Native.Nat.{ℕ, _+_, _*_, _^_, _≤_, _<_}
+use native.Mathlib.Omega.{arith}
+use lib.IntN.{ℤ}
+use mir.Syntax.{w32}
+use mir.Val.{SFits, toZ, ofZ}
+use mir.Facts.{toZ-ofZ}
+use borrow.Author.Tests.{eqb-true, leb-true, ltb-true}
+use lib.Dec.{leb, ltb, eqb}
+use Rattle.numbers.specs.Operand.{Operand}
+use Rattle.rounding.specs.Mode.{Mode}
+use Rattle.decide.proofs.Settled.{and-true}
+use Rattle.checks.specs.declared.Number.{Number}
+use Rattle.checks.specs.Number.{isZeroKind, operandOf}
+use Rattle.place.specs.declared.Placed.{Placed}
+use Rattle.settle.specs.declared.rows.Pair.{Pair}
+use Rattle.descent.specs.Ready.{Room}
+use Rattle.wide.specs.Filling.{Holding, Offered}
+use Rattle.wide.specs.Attempted.{Attempted}
+use Rattle.wide.proofs.InHollow.{sum-fits}
+use Rattle.wide.proofs.InOrder.{limbs-weigh}
+
+-- ---- what the tests tell
+
+pub kind-told : (x : Number) (xl : List ℕ) {v b : Bool} → v ≡ isZeroKind (x .kind) → v ≡ b → operandOf x xl .isZero ≡ b
+unfolding operandOf
+kind-told x xl e f = sym e ∙ f
+
+pub aligned-told : (x y : ℤ) (m k n : ℕ) → SFits w32 x → SFits w32 y → ((eqb (ofZ w32 x) (ofZ w32 y) && eqb m n) && eqb k n) ≡ true → (x ≡ y) × (m ≡ n) × (k ≡ n)
+aligned-told x y m k n f g h =
+    let a = and-true (eqb (ofZ w32 x) (ofZ w32 y) && eqb m n) (eqb k n) h in
+    let b = and-true (eqb (ofZ w32 x) (ofZ w32 y)) (eqb m n) (a .0) in
+    (sym (toZ-ofZ f) ∙ ap (toZ w32) (eqb-true (ofZ w32 x) (ofZ w32 y) (b .0)) ∙ toZ-ofZ g, eqb-true m n (b .1), eqb-true k n (a .1))
+
+pub near-told : (first second n gap : ℕ) → (((eqb first n && eqb second n) && ltb 0 gap) && ltb gap 64) ≡ true → (first ≡ n) × (second ≡ n) × (0 < gap) × (gap < 64)
+near-told first second n gap h =
+    let a = and-true ((eqb first n && eqb second n) && ltb 0 gap) (ltb gap 64) h in
+    let b = and-true (eqb first n && eqb second n) (ltb 0 gap) (a .0) in
+    let c = and-true (eqb first n) (eqb second n) (b .0) in
+    (eqb-true first n (c .0), eqb-true second n (c .1), ltb-true 0 gap (b .1), ltb-true gap 64 (a .1))
+
+pub far-told : (p first n gap : ℕ) → ((eqb first n && leb (64 * n) gap) && ltb (p + 1) gap) ≡ true → (first ≡ n) × (64 * n ≤ gap) × (p + 1 < gap)
+far-told p first n gap h =
+    let a = and-true (eqb first n && leb (64 * n) gap) (ltb (p + 1) gap) h in
+    let b = and-true (eqb first n) (leb (64 * n) gap) (a .0) in
+    (eqb-true first n (b .0), leb-true (64 * n) gap (b .1), ltb-true (p + 1) gap (a .1))
+
+pub far-asked : (p n : ℕ) → Room p n → (p + 1 < 2 ^ 64) × (64 * n < 2 ^ 64)
+far-asked p n room = (sum-fits p n room, less n (limbs-weigh p n room))
+  where
+    less : (m : ℕ) → 64 * (m + 1) < 2 ^ 64 → 64 * m < 2 ^ 64
+    less m h = omega arith
+
+-- ---- in either order
+
+-- what is held of two operands is held of their limbs by other names
+pub holding-named : {z w : Operand} {pair : Pair} {a b first second : List ℕ} → a ≡ first → b ≡ second → Holding z w pair first second → Holding z w pair a b
+holding-named e f h = record { course = h .course; regular = h .regular; pair-is = h .pair-is; first-is = e ∙ h .first-is; second-is = f ∙ h .second-is }
+
+pub offered-named : {pair : Pair} {a b first second : List ℕ} → a ≡ first → b ≡ second → Offered pair first second → Offered pair a b
+offered-named e f o = record { larger = o .larger; other = o .other; holding = holding-named e f (o .holding) }
+
+-- two counts that have changed places, put back
+pub counts-back : (s : Bool) {i j upper lower m n : ℕ} → i ≡ cond s lower upper → j ≡ cond s upper lower → upper ≡ m → lower ≡ n → (cond s j i ≡ m) × (cond s i j ≡ n)
+counts-back true e f g h = (f ∙ g, e ∙ h)
+counts-back false e f g h = (e ∙ g, f ∙ h)
+
+pub exchanged-told : (s : Bool) {o : Mode} {p : ℕ} {z w : Operand} {exit : List ℕ} {n m : Bool} {placed told : Placed} {k d i j upper lower : ℕ}
+    → m ≡ n → told ≡ placed → d ≡ k → i ≡ cond s lower upper → j ≡ cond s upper lower
+    → Attempted o p z w exit n placed k upper lower → Attempted o p z w exit m told d (cond s j i) (cond s i j)
+exchanged-told s {o} {p} {z} {w} {exit} {n} {m} {placed} {told} {k} {d} {i} {j} {upper} {lower} a b c e f t =
+    let u : cond s j i ≡ upper = counts-back s e f refl refl .0 in
+    let v : cond s i j ≡ lower = counts-back s e f refl refl .1 in
+    rw (a, b, c, u, v) t
