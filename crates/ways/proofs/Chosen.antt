@@ -35,6 +35,12 @@ aligned-told x y m k n f g h =
     let b = and-true (eqb (ofZ w32 x) (ofZ w32 y)) (eqb m n) (a .0) in
     (sym (toZ-ofZ f) ∙ ap (toZ w32) (eqb-true (ofZ w32 x) (ofZ w32 y) (b .0)) ∙ toZ-ofZ g, eqb-true m n (b .1), eqb-true k n (a .1))
 
+pub short-told : (m k n : ℕ) → ((eqb m 1 && eqb k 1) && ltb 2 n) ≡ true → (m ≡ 1) × (k ≡ 1) × (2 < n)
+short-told m k n h =
+    let a = and-true (eqb m 1 && eqb k 1) (ltb 2 n) h in
+    let b = and-true (eqb m 1) (eqb k 1) (a .0) in
+    (eqb-true m 1 (b .0), eqb-true k 1 (b .1), ltb-true 2 n (a .1))
+
 pub near-told : (first second n gap : ℕ) → (((eqb first n && eqb second n) && ltb 0 gap) && ltb gap 64) ≡ true → (first ≡ n) × (second ≡ n) × (0 < gap) × (gap < 64)
 near-told first second n gap h =
     let a = and-true ((eqb first n && eqb second n) && ltb 0 gap) (ltb gap 64) h in

@@ -208,6 +208,32 @@ fn add_regular<'a>(
     read_as_said(mode, negative, p, pair, swapped, xl, yl, target)
 }
 
+// Whether two operands have one limb each, and the target three or more.
+fn is_short(m: usize, k: usize, n: usize) -> bool
+    ensures { λ r. ⌜ (r ≡ true → (m ≡ 1) × (k ≡ 1) × (2 < n)) ⌝ }
+{
+    (m == 1) & (k == 1) & (2 < n)
+}
+
+// Adds two regular numbers that are not aligned.
+fn add_apart<'a>(
+    mode: u8,
+    x: Number,
+    xl: &'a [u64],
+    y: Number,
+    yl: &'a [u64],
+    p: u64,
+    target: &mut [u64],
+) -> Wide
+    requires { ⌜ WellFormed (operandOf x (now xl)) × (operandOf x (now xl) .isZero ≡ false) × WellFormed (operandOf y (now yl)) × (operandOf y (now yl) .isZero ≡ false) × Room p (length (now target)) ⌝ }
+    ensures { λ r. ⌜ (length (now (target .exit)) ≡ length (now (target .entry))) × (r .open ≡ false → Attempted (modeOf mode) p (operandOf x (now (xl .entry))) (operandOf y (now (yl .entry))) (now (target .exit)) (r .negative) (r .placed) (r .depth) (r .first) (r .second)) ⌝ }
+{
+    if is_short(xl.len(), yl.len(), target.len()) {
+        return short::attempt(mode, x, xl, y, yl, p, target);
+    }
+    add_regular(mode, x, xl, y, yl, p, target)
+}
+
 // Adds two numbers, where the columns that fill the target, or one more, fix the answer. Where one is zero it is left open.
 pub fn attempt<'a>(
     mode: u8,
@@ -230,5 +256,5 @@ pub fn attempt<'a>(
     if is_aligned(x, xl.len(), y, yl.len(), target.len()) {
         return aligned::attempt(mode, x, xl, y, yl, p, target);
     }
-    add_regular(mode, x, xl, y, yl, p, target)
+    add_apart(mode, x, xl, y, yl, p, target)
 }

@@ -1,0 +1,4 @@
+pub mod TwoLimbs
+pub mod Held
+pub mod NearSum
+pub mod FarSum

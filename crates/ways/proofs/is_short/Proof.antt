@@ -1,0 +1,10 @@
+-- `ways::is_short`: all tests hold. Assumes nothing.
+use Rattle.ways.proofs.Chosen.{short-told}
+use Rattle.ways.proofs.is_short.Statement.{statement}
+use Rattle.ways.proofs.is_short.Tie as tie
+
+returns : tie.Need-returns
+returns c = short-told (c .before .args .m) (c .before .args .k) (c .before .args .n)
+
+pub is-short-spec : {M : Type 1} → statement M
+is-short-spec = tie.close (tie.spec returns)
