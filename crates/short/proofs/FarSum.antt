@@ -1,9 +1,9 @@
 -- Two limbs further apart than the answer is long: one column fixes it, and the larger with a little more, or a little less, rounds to it. Assumes nothing.
-use mathlib.Core.Path.{_≡_, refl, sym, ap, _∙_, subst}
+use mathlib.Core.Path.{_≡_, refl, sym, ap, _∙_}
 use mathlib.Core.Bool.{Bool, true, false, not, cond, _&&_}
 use mathlib.Core.List.{List, [], _∷_}
 use Prim.Native.Nat.{ℕ, zero, suc, _+_, _-_, _*_, _^_, _≤_, _<_}
-use native.Mathlib.Nat.{pow-zero, pow-succ', mul-le-mul-right}
+use native.Mathlib.Nat.{pow-succ', mul-le-mul-right}
 use native.Mathlib.Omega.{arith}
 use borrow.Author.Tests.{le-leb}
 use lib.Dec.{leb}
@@ -11,19 +11,17 @@ use lib.ListN.{length, getD, take}
 use lib.Pow.{pow-pos}
 use Rattle.limb.specs.Value.{valueOf, valueIn, Below}
 use Rattle.limb.specs.Carry.{bit}
-use Rattle.limb.proofs.Value.{value-lt, value-take-lt, base-pow}
+use Rattle.limb.proofs.Value.{value-take-lt, base-pow}
 use Rattle.numbers.specs.Limits.{mostPrecision, limbsFor}
 use Rattle.numbers.specs.Operand.{Operand}
 use Rattle.numbers.proofs.Digits.{precision-two}
 use Rattle.rounding.specs.Mode.{Mode, Way, way}
 use Rattle.rounding.specs.Answer.{rounded}
 use Rattle.rounding.specs.Sum.{add}
-use Rattle.depth.specs.Bound.{deepest}
 use Rattle.place.specs.Placed.{runNumber}
 use Rattle.kept.proofs.Reaching.{top-apart}
 use Rattle.reports.specs.Counts.{usedOf}
 use Rattle.reports.proofs.Counts.{used-all, used-none}
-use Rattle.columns.specs.Column.{readTo}
 use Rattle.columns.proofs.Reading.{read-early}
 use Rattle.walk.specs.Change.{Fallen}
 use Rattle.settle.specs.Rows.{rowOf}

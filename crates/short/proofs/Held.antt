@@ -16,7 +16,7 @@ use Rattle.columns.specs.Column.{readTo}
 use Rattle.columns.proofs.Reading.{read-lt}
 use Rattle.kept.proofs.OneLimb.{one-value}
 use Rattle.settle.specs.declared.rows.Pair.{Pair}
-use Rattle.bridge.specs.Verdict.{pairOf, readSum}
+use Rattle.bridge.specs.Verdict.{readSum}
 use Rattle.bridge.proofs.Told.{pair-first, pair-second, pair-top}
 use Rattle.bridge.proofs.Read.{read-lead}
 use Rattle.bridge.proofs.Covered.{columns-above}

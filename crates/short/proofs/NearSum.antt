@@ -2,7 +2,7 @@
 use mathlib.Core.Path.{_≡_, refl, sym, ap, _∙_, subst}
 use mathlib.Core.Bool.{Bool, true, false, cond, _&&_, true≢false}
 use mathlib.Core.List.{List, [], _∷_}
-use Prim.Native.Nat.{ℕ, zero, suc, _+_, _-_, _*_, _/_, _^_, _≤_, _<_, compare, Ordering, Ordering·eq}
+use Prim.Native.Nat.{ℕ, zero, suc, _+_, _-_, _*_, _^_, _≤_, _<_, Ordering·eq}
 use native.Mathlib.Nat.{le-trans, le-of-eq, lt-of-lt-of-le, mul-assoc, mul-right-comm, mul-le-mul-right}
 use native.Mathlib.Omega.{arith}
 use borrow.Author.Tests.{le-leb, le-ltb, leb-true, ltb-false}
@@ -21,7 +21,7 @@ use Rattle.numbers.specs.Operand.{Operand, spareBits}
 use Rattle.numbers.proofs.Digits.{limbs-count, limbs-below, limbs-value, digits-and-spare, precision-two}
 use Rattle.rounding.specs.Mode.{Mode, Way, way}
 use Rattle.rounding.specs.Select.{chosen}
-use Rattle.rounding.specs.Answer.{Answer, number, digits, signed}
+use Rattle.rounding.specs.Answer.{number, digits, signed}
 use Rattle.rounding.specs.Paper.{Rep, Written, kept}
 use Rattle.rounding.specs.Sum.{add}
 use Rattle.rounding.proofs.Order.{compare-at}
@@ -31,7 +31,6 @@ use Rattle.depth.specs.Columns.{topExponent}
 use Rattle.decide.specs.Decide.{decideAt}
 use Rattle.decide.proofs.Decision.{depth-decided}
 use Rattle.location.specs.Ternary.{ternaryOf}
-use Rattle.place.specs.declared.Placed.{Placed}
 use Rattle.place.specs.Placed.{placedOf, limbsAfter}
 use Rattle.reports.specs.Counts.{usedOf}
 use Rattle.reports.proofs.Counts.{used-all, used-is}

@@ -45,7 +45,7 @@ fn one(some: bool) -> u64
     if some { 1 } else { 0 }
 }
 
-// Adds two limbs in order, u the larger.
+// The sum of u and any limb so far below it.
 pub fn far(
     mode: u8,
     negative: bool,
@@ -53,11 +53,10 @@ pub fn far(
     pair: Pair,
     swapped: bool,
     u: u64,
-    v: u64,
     target: &mut [u64],
 ) -> Wide
-    requires { ⌜ Room p (length (now target)) × (2 < length (now target)) × Offered pair (u ∷ []) (v ∷ []) × (p + 1 < pair .gap) ⌝ }
-    ensures { λ r. ⌜ (length (now (target .exit)) ≡ length (now (target .entry))) × (r .open ≡ false → Tells (modeOf mode) p pair u v negative swapped (now (target .exit)) r) ⌝ }
+    requires { ⌜ Room p (length (now target)) × (2 < length (now target)) × ((v : ℕ) × Offered pair (u ∷ []) (v ∷ [])) × (p + 1 < pair .gap) ⌝ }
+    ensures { λ r. ⌜ (length (now (target .exit)) ≡ length (now (target .entry))) × (r .open ≡ false → (v : ℕ) → Tells (modeOf mode) p pair u v negative swapped (now (target .exit)) r) ⌝ }
 {
     let filled = fill(p, pair, u, target);
     let placed = place::round_fit(

@@ -1,6 +1,6 @@
 // A sum of two regular numbers of one limb each, in a target of three limbs or more: near each other it stands in two limbs and is exact; far apart the larger stands, with a little more below it or a little less.
 ghost use mathlib.Core.Path.{_≡_};
-ghost use mathlib.Core.Bool.{true, false, not, cond, _&&_, _||_};
+ghost use mathlib.Core.Bool.{false, not, cond, _&&_, _||_};
 ghost use mathlib.Core.List.{[], _∷_};
 ghost use Prim.Native.Nat.{_<_};
 ghost use lib.Dec.{ltb, eqb};
@@ -75,7 +75,7 @@ fn add_in_order(
     if pair.gap <= p + 1 {
         return nothing();
     }
-    far(mode, negative, p, pair, swapped, u, v, target)
+    far(mode, negative, p, pair, swapped, u, target)
 }
 
 // Adds two regular numbers of one limb each, unless they cancel, lie at the ends of the range, or are apart by a limb or more and no more than the answer is long.

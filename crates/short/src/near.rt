@@ -8,7 +8,6 @@ ghost use lib.ListN.{length};
 ghost use Rattle.limb.specs.Value.{valueOf};
 ghost use Rattle.numbers.specs.Limits.{leastExponent, mostExponent};
 ghost use Rattle.rounding.specs.Mode.{Mode};
-ghost use Rattle.settle.specs.Rows.{Modest};
 ghost use Rattle.descent.specs.Ready.{Room};
 ghost use Rattle.wide.specs.Filling.{Offered};
 ghost use Rattle.short.specs.Two.{headIn};

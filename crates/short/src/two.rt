@@ -5,7 +5,7 @@
 //              [ high     ][ low      ]
 //
 ghost use mathlib.Core.Path.{_≡_};
-ghost use mathlib.Core.Bool.{true, false};
+ghost use mathlib.Core.Bool.{false};
 ghost use Prim.Native.Nat.{_+_, _-_, _*_, _%_, _^_, _≤_, _<_};
 ghost use Rattle.short.specs.Two.{headIn, Brought};
 

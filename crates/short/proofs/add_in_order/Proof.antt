@@ -42,13 +42,13 @@ returns-3 : tie.Need-returns-3
 returns-3 c = (refl, λ e. absurd (true≢false (sym (c .nothing2 .ensures) ∙ e)))
 
 far-requires : tie.Need-far-requires
-far-requires c κs = let s = c .before .before .before .before .before .before in (s .pre .0, s .pre .1, s .pre .2, c .before .if3 .left)
+far-requires c κs = let s = c .before .before .before .before .before .before in (s .pre .0, s .pre .1, (s .args .v, s .pre .2), c .before .if3 .left)
 
 same-length-2 : tie.Need-same-length-2
 same-length-2 c = search needs
 
 returns-4 : tie.Need-returns-4
-returns-4 c = (c .before .before .far .ensures .0, c .before .before .far .ensures .1)
+returns-4 c = (c .before .before .far .ensures .0, λ e. c .before .before .far .ensures .1 e (c .before .before .before .before .before .before .before .before .before .args .v))
 
 pub add-in-order-spec : {M : Type 1} → statement M
 add-in-order-spec =

@@ -1,7 +1,6 @@
 -- `short::attempt` is right since exponents and limbs tell which operand is larger, and the two may change places. Assumes nothing.
 use mathlib.Core.Path.{refl, sym, _∙_}
 use mathlib.Core.Bool.{true≢false}
-use native.Mathlib.Omega.{arith}
 use mir.Facts.{toZ-ofZ}
 use Rattle.rounding.specs.Mode.{modeOf}
 use Rattle.checks.specs.Number.{operandOf}

@@ -22,13 +22,13 @@ sub-round-fit : tie.Need-sub-round-fit
 sub-round-fit c =
     let s = c .before .before .before .before .before .before .before in
     let f = c .before .before .before .before .fill in
-    unit-room (s .args .mode) (s .args .p) _ (s .args .u ∷ []) (s .args .v ∷ []) _ _ (room-kept _ _ _ (c .before .before .before .target .given) (s .pre .0)) (f .ensures .3 (s .args .v)) (f .ensures .1) _ _ (s .pre .2 .holding)
+    unit-room (s .args .mode) (s .args .p) _ (s .args .u ∷ []) (s .pre .2 .0 ∷ []) _ _ (room-kept _ _ _ (c .before .before .before .target .given) (s .pre .0)) (f .ensures .3 (s .pre .2 .0)) (f .ensures .1) _ _ (s .pre .2 .1 .holding)
 
 round-fit-requires : tie.Need-round-fit-requires
 round-fit-requires c κs =
     let s = c .before .before .before .before .before .before .before in
     let f = c .before .before .before .before .fill in
-    fit (s .args .mode) (s .args .p) _ (s .args .u ∷ []) (s .args .v ∷ []) _ _ (room-kept _ _ _ (c .before .before .before .target .given) (s .pre .0)) (f .ensures .3 (s .args .v)) (f .ensures .1) _ _ (s .pre .2 .holding)
+    fit (s .args .mode) (s .args .p) _ (s .args .u ∷ []) (s .pre .2 .0 ∷ []) _ _ (room-kept _ _ _ (c .before .before .before .target .given) (s .pre .0)) (f .ensures .3 (s .pre .2 .0)) (f .ensures .1) _ _ (s .pre .2 .1 .holding)
 
 one-requires : tie.Need-one-requires
 one-requires c κs = search needs
@@ -44,7 +44,7 @@ returns c =
     let s = c .before .before .before .before .before .before .before .before .before .before .before .before in
     let f = c .before .before .before .before .before .before .before .before .before .fill in
     let r = c .before .before .before .before .round-fit in
-    (c .before .before .before .target2 .given ∙ c .before .before .before .before .before .before .before .before .target .given, λ e z w h sign. in-order-told (s .args .mode) (s .args .p) _ (s .args .u ∷ []) (s .args .v ∷ []) _ _ (room-kept _ _ _ (c .before .before .before .before .before .before .before .before .target .given) (s .pre .0)) (f .ensures .3 (s .args .v)) (f .ensures .1) z w h (s .args .negative) sign (r .ensures .0) (r .ensures .1) (far-counts (s .args .swapped) _ _ _ _ (f .ensures .2) (far-apart _ _ _ (s .pre .0) (s .pre .1) (s .pre .3)) (c .before .one .ensures) (c .one2 .ensures)))
+    (c .before .before .before .target2 .given ∙ c .before .before .before .before .before .before .before .before .target .given, λ e v z w h sign. in-order-told (s .args .mode) (s .args .p) _ (s .args .u ∷ []) (v ∷ []) _ _ (room-kept _ _ _ (c .before .before .before .before .before .before .before .before .target .given) (s .pre .0)) (f .ensures .3 v) (f .ensures .1) z w h (s .args .negative) sign (r .ensures .0) (r .ensures .1) (far-counts (s .args .swapped) _ _ _ _ (f .ensures .2) (far-apart _ _ _ (s .pre .0) (s .pre .1) (s .pre .3)) (c .before .one .ensures) (c .one2 .ensures)))
 
 pub far-spec : {M : Type 1} → statement M
 far-spec =
