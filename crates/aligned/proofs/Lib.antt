@@ -1,0 +1,3 @@
+pub mod AllRead
+pub mod Parting
+pub mod Whole
