@@ -39,7 +39,7 @@ use Rattle.ending.proofs.Finishing.{room-pos}
 use Rattle.ending.proofs.RegularEnd.{deep-enough}
 use Rattle.wide.proofs.Unread.{row-read}
 use Rattle.wide.proofs.Level.{short-open}
-use Rattle.aligned.specs.Aligned.{Aligned}
+use Rattle.aligned.specs.Aligned.{Aligned, Standing}
 
 module _ (x y : Operand) (n : ℕ) (a : Aligned x y n) where
   pub no-gap : pairOf x y .gap ≡ 0
@@ -64,20 +64,28 @@ module _ (x y : Operand) (n : ℕ) (a : Aligned x y n) where
   row : rowOf (pairOf x y) n ≡ Exact
   row = row-read (pairOf x y) n second-some (rw (le-leb (pairOf x y .first) (64 * n) (omega (arith, pair-first x y, first-held)), le-leb (pairOf x y .gap + pairOf x y .second) (64 * n) (omega (arith, no-gap, pair-second x y (a .second-regular), second-held))) refl)
 
-module _ (o : Mode) (p : ℕ) (x y : Operand) (n z : ℕ) (room : Room p n) (a : Aligned x y n) (course : Course x y z) (within : z < n)
-    (high : pairOf x y .same ≡ true → ltb mostExponent (x .exponent + 2) ≡ false) (low : pairOf x y .same ≡ false → ltb (x .exponent + 1) (leastExponent + 64 * n) ≡ false) where
+module _ (o : Mode) (p : ℕ) (x y : Operand) (target : List ℕ) (carry : Bool) (z top : ℕ) (s : Standing p x y target carry z top) where
+  abbrev n : ℕ
+  n = length target
+
+  abbrev a : Aligned x y n
+  a = s .aligned
+
+  abbrev course : Course x y z
+  course = s .course
+
   abbrev d : Ordered x y
   d = course .ordered
 
   P : 0 < p
-  P = room-pos p n room
+  P = room-pos p n (s .room)
 
   pub some : 1 ≤ n
-  some = room-some p n room
+  some = room-some p n (s .room)
 
   pub limbs-few : n ≤ 64
   unfolding limbsFor mostPrecision
-  limbs-few = omega (arith, room .count, room .most)
+  limbs-few = omega (arith, s .room .count, s .room .most)
 
   pub near : n ≤ deepest
   near = omega (arith, limbs-few, deep-enough)
@@ -89,7 +97,7 @@ module _ (o : Mode) (p : ℕ) (x y : Operand) (n z : ℕ) (room : Room p n) (a :
       places = omega arith
 
   pub leads-all : Leads x y n
-  leads-all = leads-after n within
+  leads-all = leads-after n (s .within)
 
   pub fixed : decideAt o p x y n ≡ true
   unfolding verdict
@@ -105,45 +113,45 @@ module _ (o : Mode) (p : ℕ) (x y : Operand) (n z : ℕ) (room : Room p n) (a :
     abbrev k : ℕ
     k = n - 1
 
-    abbrev s : Pair
-    s = pairOf x y
+    abbrev q : Pair
+    q = pairOf x y
 
     K : 1 ≤ k
     K = omega arith
 
     digits-asked : 64 * k < p
     unfolding limbsFor
-    digits-asked = omega (arith, room .count)
+    digits-asked = omega (arith, s .room .count)
 
-    unread : (leb (s .first) (64 * k) && leb (s .gap + s .second) (64 * k)) ≡ false
-    unread = rw (lt-leb (s .first) (64 * k) (omega (arith, pair-first x y, first-needs x y n a))) refl
+    unread : (leb (q .first) (64 * k) && leb (q .gap + q .second) (64 * k)) ≡ false
+    unread = rw (lt-leb (q .first) (64 * k) (omega (arith, pair-first x y, first-needs x y n a))) refl
 
-    above : 64 * k ≤ s .top
+    above : 64 * k ≤ q .top
     above = omega (arith, pair-top x y, columns-above x (a .first) (a .first-regular) n (omega (arith, near)))
 
     short : size (readSum x y k) ≤ p
-    short = go (s .same) refl
+    short = go (q .same) refl
       where
-        go : (b : Bool) → s .same ≡ b → size (readSum x y k) ≤ p
+        go : (b : Bool) → q .same ≡ b → size (readSum x y k) ≤ p
         go true e =
             let back : suc (k - 1) ≡ k = omega arith in
             let below : readSum x y k < 2 ^ suc (64 * k) = rw (pow-succ' 2 (64 * k)) (subst (λ (m : ℕ). readSum x y m < 2 * 2 ^ (64 * m)) back (sum-below x y (k - 1) d e)) in
             omega (arith, size-le (readSum x y k) (suc (64 * k)) below, digits-asked)
         go false e =
-            let below : readSum x y k < 2 ^ (64 * k) = rw (difference-is x y k d k e) (less (readTo k 0 (x .limbs)) (readTo k (s .gap) (y .limbs)) (2 ^ (64 * k)) (read-lt 0 (x .limbs) (a .first .limb) k)) in
+            let below : readSum x y k < 2 ^ (64 * k) = rw (difference-is x y k d k e) (less (readTo k 0 (x .limbs)) (readTo k (q .gap) (y .limbs)) (2 ^ (64 * k)) (read-lt 0 (x .limbs) (a .first .limb) k)) in
             omega (arith, size-le (readSum x y k) (64 * k) below, digits-asked)
           where
             less : (i j m : ℕ) → i < m → i - j < m
             less i j m h = omega arith
 
-    calm : s .same ≡ false → ltb (s .top + 1) (leastExponent + 64 * k) ≡ false
-    calm e = le-ltb (s .top + 1) (leastExponent + 64 * k) (omega (arith, pair-top x y, ltb-false (x .exponent + 1) (leastExponent + 64 * n) (low e)))
+    calm : q .same ≡ false → ltb (q .top + 1) (leastExponent + 64 * k) ≡ false
+    calm e = le-ltb (q .top + 1) (leastExponent + 64 * k) (omega (arith, pair-top x y, s .top-is, ltb-false (top + 1) (leastExponent + 64 * n) (s .low e)))
 
     parted-open : z < k → decideAt o p x y k ≡ false
-    parted-open h = short-open o p P x y k d K (leads-after k h) (a .second-regular) above (λ e. rw (pair-top x y) (high e)) calm (omega (arith, no-gap x y n a)) unread short
+    parted-open h = short-open o p P x y k d K (leads-after k h) (a .second-regular) above (λ e. rw (pair-top x y, ← s .top-is) (s .high e)) calm (omega (arith, no-gap x y n a)) unread short
 
   pub first : 1 < n → decideAt o p x y (n - 1) ≡ false
   first more = elim (decLe (n - 1) z) [
-    | yes h ↦ let e : z ≡ n - 1 = omega arith in subst (λ (m : ℕ). decideAt o p x y m ≡ false) e (open-before o p x y z course (x .limbs) (subst (Room p) (sym (a .first-limbs)) room) (omega arith))
+    | yes h ↦ let e : z ≡ n - 1 = omega arith in subst (λ (m : ℕ). decideAt o p x y m ≡ false) e (open-before o p x y z course target (s .room) (omega arith))
     | no h ↦ parted-open more (omega arith)
   ]

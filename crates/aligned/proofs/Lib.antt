@@ -1,3 +1,4 @@
 pub mod AllRead
 pub mod Parting
 pub mod Whole
+pub mod Stands

@@ -2,7 +2,7 @@
 use mathlib.Core.Path.{_≡_, refl, sym, ap, _∙_}
 use mathlib.Core.Bool.{Bool, true, false, _||_, true≢false}
 use mathlib.Core.List.{List}
-use Prim.Native.Nat.{ℕ, _+_, _-_, _*_, _^_, _≤_, _<_}
+use Prim.Native.Nat.{ℕ, _+_, _-_, _*_, _/_, _^_, _≤_, _<_}
 use native.Mathlib.Nat.{mul-assoc}
 use native.Mathlib.Omega.{arith}
 use borrow.Author.Tests.{lt-ltb, le-leb, eq-eqb}
@@ -58,12 +58,8 @@ module _ (mode p : ℕ) (x y : Operand) (t : List ℕ) (carry : Bool) (z top : �
   P : 0 < p
   P = room-pos p n (s .room)
 
-  few : n ≤ 64
-  unfolding limbsFor mostPrecision
-  few = omega (arith, s .room .count, s .room .most)
-
   above : 64 * (n + z + 1) + 1 ≤ x .exponent
-  above = columns-above x (a .first) (a .first-regular) (n + z + 1) (omega (arith, few, s .within, deep-enough))
+  above = columns-above x (a .first) (a .first-regular) (n + z + 1) (omega (arith, limbs-few o p x y t carry z top s, s .within, deep-enough))
 
   pub unit-room : 64 * (n + z + 1) ≤ top
   unit-room = omega (arith, above, s .top-is)
@@ -97,8 +93,8 @@ module _ (mode p : ℕ) (x y : Operand) (t : List ℕ) (carry : Bool) (z top : �
 
   sum-is : add o p x y ≡ rounded (way o (x .negative)) p (unit - 1) (x .negative) (runNumber carry t 0 false)
   sum-is =
-      answer o p x y n z (s .room) a (s .course) (s .within) (rw (s .top-is) at (s .high)) (rw (s .top-is) at (s .low))
-      ∙ sym (scaled-up (way o (x .negative)) p P (x .negative) (x .exponent - 64 * n) D (z + 1) false (place-room (x .exponent) n above) (sum-pos o p P x y n d (some o p x y n z (s .room) a (s .course) (s .within) (rw (s .top-is) at (s .high)) (rw (s .top-is) at (s .low))) (leads-all o p x y n z (s .room) a (s .course) (s .within) (rw (s .top-is) at (s .high)) (rw (s .top-is) at (s .low)))) (λ e. absurd (true≢false (sym e))))
+      answer o p x y t carry z top s
+      ∙ sym (scaled-up (way o (x .negative)) p P (x .negative) (x .exponent - 64 * n) D (z + 1) false (place-room (x .exponent) n above) (sum-pos o p P x y n d (some o p x y t carry z top s) (leads-all o p x y t carry z top s)) (λ e. absurd (true≢false (sym e))))
       ∙ ap (λ (m : ℕ). rounded (way o (x .negative)) p (m - 1) (x .negative) (2 * (D * 2 ^ (64 * (z + 1))) + bit false)) (place (x .exponent) n ∙ ap (λ (m : ℕ). m - 64 * (n + z + 1)) (sym (s .top-is)))
       ∙ ap (rounded (way o (x .negative)) p (unit - 1) (x .negative)) (sym run-is)
     where
@@ -111,5 +107,25 @@ module _ (mode p : ℕ) (x y : Operand) (t : List ℕ) (carry : Bool) (z top : �
   used : (w : Operand) → length (w .limbs) ≡ n → n ≡ usedOf n 0 (length (w .limbs))
   used w e = rw e (used-all n 0 n (omega (arith, s .within)) (whole n))
     where
-      whole : (m : ℕ) → m ≤ (64 * m - 0 + 63) Prim.Native.Nat./ 64
+      whole : (m : ℕ) → m ≤ (64 * m - 0 + 63) / 64
       whole m = omega arith
+
+  module _ (negative : Bool) (sign : negative ≡ x .negative) where
+    rounds : runAnswer mode p negative unit (runNumber carry t 0 false) ≡ add o p x y
+    unfolding runAnswer
+    rounds = rw sign (sym sum-is)
+
+    pub told : {exit : List ℕ} {placed : Placed} → placed ≡ roundedPlaced mode p negative unit carry t 0 false → exit ≡ roundedLimbs mode p negative unit carry t 0 false → Attempted o p x y exit negative placed n n n
+    told {exit} {placed} e f =
+        let top-told : topExponent x y ≡ x .exponent = top-is o p P x y 1 d (omega arith) in
+        record {
+          decides = record { zeros = λ h. absurd (true≢false (sym h ∙ rw (a .first-regular) refl)); deciding = λ h. depth-decided o p P x y (a .first) (a .second) n (some o p x y t carry z top s) (fixed o p x y t carry z top s) (first o p x y t carry z top s) };
+          bounded = near o p x y t carry z top s;
+          left = record { told = e ∙ placed-passed mode p negative unit carry t 0 false fit ∙ ap placedOf rounds; limbs = f ∙ limbs-passed mode p negative unit carry t 0 false fit ∙ ap (limbsAfter p) rounds };
+          signed = rw (sign, sum-is) (rounded-signed _ _ _ _ _);
+          first-used = used x (a .first-limbs) ∙ used-is x (topExponent x y) n 0 (a .first) (a .first-regular) (rw top-told (apart (x .exponent) (x .exponent) refl));
+          second-used = used y (a .second-limbs) ∙ used-is y (topExponent x y) n 0 (a .second) (a .second-regular) (rw top-told (apart (x .exponent) (y .exponent) (a .even)));
+        }
+      where
+        apart : (m i : ℕ) → i ≡ m → 0 ≡ m - i
+        apart m i h = omega arith

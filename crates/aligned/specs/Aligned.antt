@@ -4,7 +4,7 @@ use mathlib.Core.Path.{_≡_}
 use mathlib.Core.Bool.{Bool, true, false, Bool·beq}
 use mathlib.Core.List.{List}
 use lib.Dec.{ltb}
-use lib.ListN.{length, drop, getD}
+use lib.ListN.{length, take, drop, getD}
 use Rattle.limb.specs.Value.{valueOf}
 use Rattle.limb.specs.Carry.{bit}
 use Rattle.numbers.specs.Limits.{leastExponent, mostExponent}
@@ -36,6 +36,18 @@ pub record Parted (x y : Operand) (n z : ℕ) : Type 0 where
   pub within : z < n
   pub level : valueOf (drop (n - z) (y .limbs)) ≡ valueOf (drop (n - z) (x .limbs))
   pub larger : getD (y .limbs) (n - 1 - z) 0 < getD (x .limbs) (n - 1 - z) 0
+
+-- two runs of n limbs, of which the first is no less below the top z
+pub record Reducible (first second : List ℕ) (n z : ℕ) : Type 0 where
+  pub within : z ≤ n
+  pub first-limbs : length first ≡ n
+  pub second-limbs : length second ≡ n
+  pub less : valueOf (take (n - z) second) ≤ valueOf (take (n - z) first)
+
+-- their difference below the top z limbs, moved up by as many
+pub record Subtracted (first second before after : List ℕ) (z : ℕ) : Type 0 where
+  pub size : length after ≡ length before
+  pub value : valueOf after ≡ (valueOf (take (length before - z) first) - valueOf (take (length before - z) second)) * 2 ^ (64 * z)
 
 -- all that there is of their sum stands in the target, moved up by z columns, with a carry on top, and no refusal is near
 pub record Standing (p : ℕ) (x y : Operand) (target : List ℕ) (carry : Bool) (z top : ℕ) : Type 0 where

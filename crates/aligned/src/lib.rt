@@ -1,7 +1,24 @@
 // Two regular numbers of one exponent, each with as many limbs as the target: every column is read, and the sum is exact before it is rounded.
+//
+//     column      0              z                n - 1
+//     xl       [ top limb .. | the first that differ .. ]
+//     yl       [ the same .. | ..                       ]
+//     target   [ the difference of these .. | 0 .. 0    ]
+//
 ghost use mathlib.Core.Path.{_≡_};
+ghost use mathlib.Core.Bool.{true, false, cond, Bool·beq};
+ghost use Prim.Native.Nat.{_+_, _-_, _*_, _≤_};
 ghost use lib.ListN.{length};
-ghost use Rattle.aligned.specs.Aligned.{Alike};
+ghost use Rattle.numbers.specs.Operand.{Operand, WellFormed};
+ghost use Rattle.rounding.specs.Mode.{modeOf};
+ghost use Rattle.checks.specs.Number.{operandOf};
+ghost use Rattle.place.specs.Placed.{runRule};
+ghost use Rattle.descent.specs.Ready.{Room};
+ghost use Rattle.wide.specs.Attempted.{Attempted};
+ghost use Rattle.aligned.specs.Aligned.{Aligned, Alike, Reducible, Subtracted, Standing};
+use checks::Number;
+use wide::Wide;
+use wide::nothing;
 
 // How many limbs at the top of two runs of one length are alike.
 fn alike(a: &[u64], b: &[u64]) -> usize
@@ -17,4 +34,60 @@ fn alike(a: &[u64], b: &[u64]) -> usize
         i += 1;
     }
     i
+}
+
+// The difference of two runs below their top z limbs, moved up by as many.
+fn subtract_below(target: &mut [u64], z: usize, first: &[u64], second: &[u64])
+    requires { ⌜ Reducible (now first) (now second) (length (now target)) z ⌝ }
+    ensures { λ r. ⌜ Subtracted (now (first .entry)) (now (second .entry)) (now (target .entry)) (now (target .exit)) z ⌝ }
+{
+    let m = target.len() - z;
+    parts::clear(&mut target[0..z]);
+    fused::difference(&mut target[z..], &first[0..m], &second[0..m]);
+}
+
+// The same, the second run first where so said.
+fn subtract_in_order(target: &mut [u64], z: usize, swapped: bool, a: &[u64], b: &[u64])
+    requires { ⌜ Reducible (cond swapped (now b) (now a)) (cond swapped (now a) (now b)) (length (now target)) z ⌝ }
+    ensures { λ r. ⌜ Subtracted (cond swapped (now (b .entry)) (now (a .entry))) (cond swapped (now (a .entry)) (now (b .entry))) (now (target .entry)) (now (target .exit)) z ⌝ }
+{
+    if swapped {
+        subtract_below(target, z, b, a);
+        return;
+    }
+    subtract_below(target, z, a, b);
+}
+
+// Rounds what stands in the target: all of a sum, moved up by so many columns.
+fn round_whole(
+    mode: u8,
+    negative: bool,
+    carry: bool,
+    skipped: u64,
+    top: u64,
+    p: u64,
+    target: &mut [u64],
+) -> Wide
+    requires { ⌜ (64 * (length (now target) + skipped + 1) ≤ top) × (runRule p carry (now target) (top - 64 * (length (now target) + skipped + 1)) ≡ 0) ⌝ }
+    ensures { λ r. ⌜ (length (now (target .exit)) ≡ length (now (target .entry))) × (r .second ≡ r .first) × ((x y : Operand) → Standing p x y (now (target .entry)) carry skipped top → negative ≡ x .negative → Attempted (modeOf mode) p x y (now (target .exit)) (r .negative) (r .placed) (r .depth) (r .first) (r .second)) ⌝ }
+{
+    let n = target.len() as u64;
+    let placed = place::round_fit(
+        negative,
+        carry,
+        target,
+        0,
+        false,
+        top - 64 * (n + skipped + 1),
+        p,
+        mode,
+    );
+    Wide {
+        open: false,
+        negative: negative,
+        placed: placed,
+        depth: n,
+        first: n,
+        second: n,
+    }
 }
