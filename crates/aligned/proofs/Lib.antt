@@ -2,3 +2,4 @@ pub mod AllRead
 pub mod Parting
 pub mod Whole
 pub mod Stands
+pub mod AsFound

@@ -17,11 +17,9 @@ use Rattle.limb.specs.Carry.{bit}
 use Rattle.limb.proofs.Value.{value-nil, value-split, value-drop, value-lt, value-take-lt, base-pow}
 use Rattle.parts.proofs.Parts.{drop-put}
 use Rattle.fused.specs.Fused.{DifferenceOf}
-use Rattle.numbers.specs.Limits.{counted, leastExponent, mostExponent, limbsFor, mostPrecision}
+use Rattle.numbers.specs.Limits.{leastExponent, mostExponent, limbsFor, mostPrecision}
 use Rattle.numbers.specs.Operand.{Operand, WellFormed}
 use Rattle.rounding.proofs.Order.{le-or-lt}
-use Rattle.checks.specs.declared.Number.{Number}
-use Rattle.checks.specs.Number.{operandOf}
 use Rattle.descent.specs.Ready.{Room}
 use Rattle.ending.proofs.Finishing.{room-some, cleared}
 use Rattle.ending.proofs.Handed.{beq-turned}
@@ -184,11 +182,3 @@ module _ (x y : Operand) (n z : ℕ) (a : Aligned x y n) (unlike : Bool·beq (x 
 
 pub reducible : (x y : Operand) (n z : ℕ) → n ≤ 64 → Parted x y n z → Reducible (x .limbs) (y .limbs) n z
 reducible x y n z few d = record { within = omega (arith, d .within); first-limbs = d .aligned .first-limbs; second-limbs = d .aligned .second-limbs; less = omega (arith, lower-less x y n z d few) }
-
--- ---- as the code finds it
-
-pub reducible-as : (b : Bool) {s : Bool} {n z : ℕ} (u v : List ℕ) → s ≡ b → Reducible (cond s v u) (cond s u v) n z → Reducible (cond b v u) (cond b u v) n z
-reducible-as b {s} {n} {z} u v e r = subst (λ (c : Bool). Reducible (cond c v u) (cond c u v) n z) e r
-
-pub subtracted-as : (b : Bool) {s : Bool} {t w : List ℕ} {z : ℕ} (u v : List ℕ) → s ≡ b → Subtracted (cond b v u) (cond b u v) t w z → Subtracted (cond s v u) (cond s u v) t w z
-subtracted-as b {s} {t} {w} {z} u v e r = subst (λ (c : Bool). Subtracted (cond c v u) (cond c u v) t w z) (sym e) r

@@ -61,10 +61,10 @@ module _ (mode p : ℕ) (x y : Operand) (t : List ℕ) (carry : Bool) (z top : �
   above : 64 * (n + z + 1) + 1 ≤ x .exponent
   above = columns-above x (a .first) (a .first-regular) (n + z + 1) (omega (arith, limbs-few o p x y t carry z top s, s .within, deep-enough))
 
-  pub unit-room : 64 * (n + z + 1) ≤ top
+  unit-room : 64 * (n + z + 1) ≤ top
   unit-room = omega (arith, above, s .top-is)
 
-  pub fit : runRule p carry t unit ≡ 0
+  fit : runRule p carry t unit ≡ 0
   fit =
       sym (rule-none p carry t unit (rw (le-leb leastPrecision p (s .room .least), le-leb p mostPrecision (s .room .most)) refl) (eq-eqb n (limbsFor p) (s .room .count)) (rw (lt-ltb 0 unit positive, le-leb unit (2 * mostExponent) small) refl) (leading carry refl))
     where
@@ -77,6 +77,9 @@ module _ (mode p : ℕ) (x y : Operand) (t : List ℕ) (carry : Bool) (z top : �
       leading : (c : Bool) → carry ≡ c → (c || ltb 0 (getD t (n - 1) 0)) ≡ true
       leading true e = refl
       leading false e = lt-ltb 0 (getD t (n - 1) 0) (s .led e)
+
+  pub asks : (64 * (n + z + 1) ≤ top) × (runRule p carry t unit ≡ 0)
+  asks = (unit-room, fit)
 
   run-is : runNumber carry t 0 false ≡ 2 * (D * 2 ^ (64 * (z + 1))) + bit false
   unfolding runNumber

@@ -7,8 +7,9 @@
 //
 ghost use mathlib.Core.Path.{_≡_};
 ghost use mathlib.Core.Bool.{true, false, cond, Bool·beq};
-ghost use Prim.Native.Nat.{_+_, _-_, _*_, _≤_};
-ghost use lib.ListN.{length};
+ghost use Prim.Native.Nat.{_+_, _-_, _*_, _≤_, _<_};
+ghost use lib.Dec.{ltb};
+ghost use lib.ListN.{length, getD};
 ghost use Rattle.numbers.specs.Operand.{Operand, WellFormed};
 ghost use Rattle.rounding.specs.Mode.{modeOf};
 ghost use Rattle.checks.specs.Number.{operandOf};
@@ -34,6 +35,15 @@ fn alike(a: &[u64], b: &[u64]) -> usize
         i += 1;
     }
     i
+}
+
+// Whether the second of two runs is larger in the limb below the top z.
+fn is_second_larger(a: &[u64], b: &[u64], z: usize) -> bool
+    requires { ⌜ (z < length (now a)) × (length (now b) ≡ length (now a)) ⌝ }
+    ensures { λ r. ⌜ r ≡ ltb (getD (now (a .entry)) (length (now (a .entry)) - 1 - z) 0) (getD (now (b .entry)) (length (now (a .entry)) - 1 - z) 0) ⌝ }
+{
+    let i = a.len() - 1 - z;
+    a[i] < b[i]
 }
 
 // The difference of two runs below their top z limbs, moved up by as many.
@@ -90,4 +100,58 @@ fn round_whole(
         first: n,
         second: n,
     }
+}
+
+// Two operands of unlike signs. Left open where a refusal is near, where no limbs differ, and where a borrow empties the target's top limb.
+fn subtract(
+    mode: u8,
+    x: Number,
+    xl: &[u64],
+    y: Number,
+    yl: &[u64],
+    top: u64,
+    p: u64,
+    target: &mut [u64],
+) -> Wide
+    requires { ⌜ Room p (length (now target)) × Aligned (operandOf x (now xl)) (operandOf y (now yl)) (length (now target)) × (Bool·beq (x .negative) (y .negative) ≡ false) × (top ≡ operandOf x (now xl) .exponent) ⌝ }
+    ensures { λ r. ⌜ (length (now (target .exit)) ≡ length (now (target .entry))) × (r .open ≡ false → Attempted (modeOf mode) p (operandOf x (now (xl .entry))) (operandOf y (now (yl .entry))) (now (target .exit)) (r .negative) (r .placed) (r .depth) (r .first) (r .second)) ⌝ }
+{
+    let n = target.len();
+    if bounds::is_low(top, n as u64) {
+        return nothing();
+    }
+    let z = alike(xl, yl);
+    if z == n {
+        return nothing();
+    }
+    let swapped = is_second_larger(xl, yl, z);
+    subtract_in_order(target, z, swapped, xl, yl);
+    if target[n - 1] == 0 {
+        return nothing();
+    }
+    round_whole(mode, x.negative != swapped, false, z as u64, top, p, target)
+}
+
+// Adds two regular numbers of one exponent that have as many limbs as the target.
+pub fn attempt(
+    mode: u8,
+    x: Number,
+    xl: &[u64],
+    y: Number,
+    yl: &[u64],
+    p: u64,
+    target: &mut [u64],
+) -> Wide
+    requires { ⌜ WellFormed (operandOf x (now xl)) × (operandOf x (now xl) .isZero ≡ false) × WellFormed (operandOf y (now yl)) × (operandOf y (now yl) .isZero ≡ false) × (x .exponent ≡ y .exponent) × (length (now xl) ≡ length (now target)) × (length (now yl) ≡ length (now target)) × Room p (length (now target)) ⌝ }
+    ensures { λ r. ⌜ (length (now (target .exit)) ≡ length (now (target .entry))) × (r .open ≡ false → Attempted (modeOf mode) p (operandOf x (now (xl .entry))) (operandOf y (now (yl .entry))) (now (target .exit)) (r .negative) (r .placed) (r .depth) (r .first) (r .second)) ⌝ }
+{
+    let top = checks::counted_exponent(x.exponent);
+    if x.negative != y.negative {
+        return subtract(mode, x, xl, y, yl, top, p, target);
+    }
+    if bounds::is_high(top) {
+        return nothing();
+    }
+    let carry = fused::sum(target, xl, yl);
+    round_whole(mode, x.negative, carry, 0, top, p, target)
 }

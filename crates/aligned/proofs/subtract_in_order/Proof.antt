@@ -1,6 +1,6 @@
 -- `aligned::subtract_in_order` is right in each order. Assumes nothing.
 use mathlib.Core.Bool.{true, false}
-use Rattle.aligned.proofs.Stands.{reducible-as, subtracted-as}
+use Rattle.aligned.proofs.AsFound.{reducible-as, subtracted-as}
 use borrow.Author.Needs.{needs}
 use Rattle.aligned.proofs.subtract_in_order.Statement.{statement}
 use Rattle.aligned.proofs.subtract_in_order.Tie as tie
