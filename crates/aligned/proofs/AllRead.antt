@@ -12,7 +12,7 @@ use lib.ListN.{length}
 use lib.Ieee.{size}
 use lib.Ieee.Digits.{size-le}
 use Rattle.limb.specs.Carry.{bit}
-use Rattle.numbers.specs.Limits.{mostPrecision, leastExponent, mostExponent, limbsFor}
+use Rattle.numbers.specs.Limits.{mostPrecision, leastExponent, limbsFor}
 use Rattle.numbers.specs.Operand.{Operand}
 use Rattle.numbers.proofs.Digits.{precision-two}
 use Rattle.numbers.proofs.Limits.{limbs-hold, limbs-fewest}
@@ -31,7 +31,6 @@ use Rattle.bridge.proofs.Told.{pair-first, pair-second, pair-gap, pair-top}
 use Rattle.bridge.proofs.Decision.{decision}
 use Rattle.bridge.proofs.Covered.{columns-above}
 use Rattle.bridge.proofs.Theorems.{leads-later, row-sum}
-use Rattle.descent.specs.Ready.{Room}
 use Rattle.descent.specs.Course.{Course}
 use Rattle.descent.proofs.GoingOn.{sum-below, difference-is}
 use Rattle.descent.proofs.GoingDown.{room-some, open-before}

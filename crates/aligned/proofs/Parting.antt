@@ -1,12 +1,11 @@
 -- Where two runs of one length part: the limbs above are alike, so that the limbs below have their difference. Assumes nothing.
-use mathlib.Core.Path.{_≡_, refl, sym, ap, _∙_, subst}
+use mathlib.Core.Path.{_≡_, refl, sym, ap, _∙_}
 use mathlib.Core.Bool.{true, false, Bool·beq, true≢false}
 use mathlib.Core.List.{List, []}
 use Prim.Native.Nat.{ℕ, suc, _+_, _-_, _*_, _/_, _^_, _≤_, _<_}
 use native.Mathlib.Nat.{mul-le-mul-left}
 use native.Mathlib.Omega.{arith}
 use lib.ListN.{length, take, drop, getD, drop-of-length-le}
-use lib.Pow.{pow-pos}
 use Rattle.limb.specs.Value.{valueOf, valueIn, Below}
 use Rattle.limb.proofs.Value.{value-split, value-take, value-drop, value-take-lt, value-shr, base-pow}
 use Rattle.numbers.specs.Operand.{Operand}
@@ -18,7 +17,7 @@ use Rattle.descent.specs.Course.{Course}
 use Rattle.descent.proofs.GoingOn.{secondRead, sum-is, difference-is}
 use Rattle.ending.proofs.Handed.{course-first}
 use Rattle.ending.proofs.RegularEnd.{deep-enough}
-use Rattle.aligned.specs.Aligned.{Aligned, Alike, Parted}
+use Rattle.aligned.specs.Aligned.{Aligned, Parted}
 use Rattle.aligned.proofs.AllRead.{no-gap}
 
 -- ---- the loop

@@ -1,5 +1,5 @@
 -- What stands in the target after an addition or a subtraction of limbs is all of the sum. Assumes nothing.
-use mathlib.Core.Path.{_≡_, refl, sym, ap, _∙_, subst}
+use mathlib.Core.Path.{_≡_, refl, sym, ap, _∙_}
 use mathlib.Core.Logic.{inl, inr}
 use mathlib.Core.Bool.{Bool, true, false, not, cond, Bool·beq, true≢false}
 use mathlib.Core.List.{List, [], _++_}
@@ -12,7 +12,7 @@ use lib.ListN.{length, take, drop, getD, replicate, drop-of-length-le, take-appe
 use lib.Seq.{take-at, getD-drop, length-take-le}
 use borrow.Rule.Slice.PartMut.{putMid, postOf, take-put}
 use lib.Pow.{pow-mono}
-use Rattle.limb.specs.Value.{valueOf, valueIn, Below}
+use Rattle.limb.specs.Value.{valueOf, Below}
 use Rattle.limb.specs.Carry.{bit}
 use Rattle.limb.proofs.Value.{value-nil, value-split, value-drop, value-lt, value-take-lt, base-pow}
 use Rattle.parts.proofs.Parts.{drop-put}

@@ -6,17 +6,16 @@ use Prim.Native.Nat.{ℕ, _+_, _-_, _*_, _/_, _^_, _≤_, _<_}
 use native.Mathlib.Nat.{mul-assoc}
 use native.Mathlib.Omega.{arith}
 use borrow.Author.Tests.{lt-ltb, le-leb, eq-eqb}
-use lib.Dec.{ltb, leb}
+use lib.Dec.{ltb}
 use lib.ListN.{length, getD}
 use lib.Pow.{pow-add}
-use Rattle.limb.specs.Value.{valueOf}
 use Rattle.limb.specs.Carry.{bit}
 use Rattle.numbers.specs.Limits.{leastPrecision, mostPrecision, mostExponent, limbsFor}
 use Rattle.numbers.specs.Operand.{Operand}
 use Rattle.rounding.specs.Mode.{Mode, modeOf, way}
 use Rattle.rounding.specs.Answer.{rounded}
 use Rattle.rounding.specs.Sum.{add}
-use Rattle.depth.specs.Columns.{topExponent, limbsUsed}
+use Rattle.depth.specs.Columns.{topExponent}
 use Rattle.decide.proofs.Decision.{depth-decided}
 use Rattle.place.specs.declared.Placed.{Placed}
 use Rattle.place.specs.Placed.{runNumber, runAnswer, runRule, placedOf, limbsAfter}

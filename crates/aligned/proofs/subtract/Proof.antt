@@ -10,7 +10,7 @@ use Rattle.aligned.proofs.subtract.Statement.{statement}
 use Rattle.aligned.proofs.subtract.Tie as tie
 
 is-low-requires : tie.Need-is-low-requires
-is-low-requires c κs = 
+is-low-requires c κs =
     let s = c .before .before .before in
     let m = limbs-modest (s .args .p) _ (s .pre .0) in
     (top-modest _ _ _ _ (s .pre .1) (s .pre .3), omega arith)
@@ -61,7 +61,7 @@ same-length-2 : tie.Need-same-length-2
 same-length-2 c = search needs
 
 returns-4 : tie.Need-returns-4
-returns-4 c = 
+returns-4 c =
     let s = c .before .before .before .before .before .before .before .before .before .before .before .before .before .before .before .before .before .before .before in
     let r = c .before .before .round-whole in
     (c .before .target2 .given ∙ c .before .before .before .before .before .before .before .before .target .given, λ e. difference-told (s .args .p) (s .args .x) (s .args .xl .now) (s .args .y) (s .args .yl .now) (s .args .target .now) (s .args .top) (s .pre .0) (s .pre .1) _ (c .before .before .before .before .before .before .before .before .before .before .before .before .before .alike .ensures) (c .before .before .before .before .before .before .before .before .before .before .before .before .if2 .left) (s .pre .2) _ (c .before .before .before .before .before .before .before .before .before .before .before .is-second-larger .ensures) (s .args .mode) _ _ _ (r .ensures .1) (r .ensures .2 _ _ (difference-stands (s .args .p) (s .args .x) (s .args .xl .now) (s .args .y) (s .args .yl .now) (s .args .target .now) (s .args .top) (s .pre .0) (s .pre .1) _ (c .before .before .before .before .before .before .before .before .before .before .before .before .before .alike .ensures) (c .before .before .before .before .before .before .before .before .before .before .before .before .if2 .left) (s .pre .2) _ (c .before .before .before .before .before .before .before .before .before .before .before .is-second-larger .ensures) (s .pre .3) (sym (c .before .before .before .before .before .before .before .before .before .before .before .before .before .before .before .is-low .ensures) ∙ c .before .before .before .before .before .before .before .before .before .before .before .before .before .before .if1 .left) (c .before .before .before .before .before .before .before .before .before .subtract-in-order .ensures) (c .before .before .before .before .before .if3 .left)) (sign-kept (s .args .p) (s .args .x) (s .args .xl .now) (s .args .y) (s .args .yl .now) (s .args .target .now) (s .args .top) (s .pre .0) (s .pre .1) _ (c .before .before .before .before .before .before .before .before .before .before .before .before .before .alike .ensures) (c .before .before .before .before .before .before .before .before .before .before .before .before .if2 .left) (s .pre .2) _ (c .before .before .before .before .before .before .before .before .before .before .before .is-second-larger .ensures))))
