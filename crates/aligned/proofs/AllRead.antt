@@ -1,0 +1,156 @@
+-- Operands of one exponent and n limbs: n columns are all that there is, one fewer fixes nothing, and what is read is the sum. Assumes nothing.
+use mathlib.Core.Path.{_≡_, refl, sym, ap, _∙_, subst}
+use mathlib.Core.Bool.{Bool, true, false, _&&_}
+use mathlib.Core.List.{List}
+use Prim.Native.Nat.{ℕ, suc, _+_, _-_, _*_, _^_, _≤_, _<_}
+use native.Mathlib.Decide.{decLe}
+use native.Mathlib.Nat.{pow-succ'}
+use native.Mathlib.Omega.{arith}
+use borrow.Author.Tests.{le-leb, lt-leb, ltb-false, le-ltb}
+use lib.Dec.{ltb, leb}
+use lib.ListN.{length}
+use lib.Ieee.{size}
+use lib.Ieee.Digits.{size-le}
+use Rattle.limb.specs.Carry.{bit}
+use Rattle.numbers.specs.Limits.{mostPrecision, leastExponent, limbsFor}
+use Rattle.numbers.specs.Operand.{Operand}
+use Rattle.numbers.proofs.Digits.{precision-two}
+use Rattle.numbers.proofs.Limits.{limbs-hold, limbs-fewest}
+use Rattle.rounding.specs.Mode.{Mode, way}
+use Rattle.rounding.specs.Answer.{rounded}
+use Rattle.rounding.specs.Sum.{add}
+use Rattle.depth.specs.Bound.{deepest}
+use Rattle.decide.specs.Decide.{decideAt}
+use Rattle.columns.specs.Column.{readTo}
+use Rattle.columns.proofs.Reading.{read-lt}
+use Rattle.settle.specs.Rows.{rowOf}
+use Rattle.settle.specs.declared.rows.Pair.{Pair}
+use Rattle.settle.specs.declared.rows.Row.the-variants.{Exact}
+use Rattle.bridge.specs.Verdict.{pairOf, Ordered, Leads, readSum, settledBy, moreOf, verdict}
+use Rattle.bridge.proofs.Told.{pair-first, pair-second, pair-gap, pair-top}
+use Rattle.bridge.proofs.Decision.{decision}
+use Rattle.bridge.proofs.Covered.{columns-above}
+use Rattle.bridge.proofs.Theorems.{leads-later, row-sum}
+use Rattle.descent.specs.Course.{Course}
+use Rattle.descent.proofs.GoingOn.{sum-below, difference-is}
+use Rattle.descent.proofs.GoingDown.{room-some, open-before}
+use Rattle.ending.proofs.Finishing.{room-pos}
+use Rattle.ending.proofs.RegularEnd.{deep-enough}
+use Rattle.wide.proofs.Unread.{row-read}
+use Rattle.wide.proofs.Level.{short-open}
+use Rattle.aligned.specs.Aligned.{Aligned, Standing}
+
+module _ (x y : Operand) (n : ℕ) (a : Aligned x y n) where
+  pub no-gap : pairOf x y .gap ≡ 0
+  no-gap = pair-gap x y (a .second-regular) ∙ go (x .exponent) (y .exponent) (a .even)
+    where
+      go : (m i : ℕ) → i ≡ m → m - i ≡ 0
+      go m i e = omega arith
+
+  first-held : x .precision ≤ 64 * n
+  first-held = rw (sym (a .first .count) ∙ a .first-limbs) at (limbs-hold (x .precision))
+
+  second-held : y .precision ≤ 64 * n
+  second-held = rw (sym (a .second .count) ∙ a .second-limbs) at (limbs-hold (y .precision))
+
+  first-needs : 64 * n < x .precision + 64
+  first-needs = rw (sym (a .first .count) ∙ a .first-limbs) at (limbs-fewest (x .precision))
+
+  second-some : 0 < pairOf x y .second
+  second-some = omega (arith, pair-second x y (a .second-regular), precision-two y (a .second))
+
+  -- all is read of both
+  row : rowOf (pairOf x y) n ≡ Exact
+  row = row-read (pairOf x y) n second-some (rw (le-leb (pairOf x y .first) (64 * n) (omega (arith, pair-first x y, first-held)), le-leb (pairOf x y .gap + pairOf x y .second) (64 * n) (omega (arith, no-gap, pair-second x y (a .second-regular), second-held))) refl)
+
+module _ (o : Mode) (p : ℕ) (x y : Operand) (target : List ℕ) (carry : Bool) (z top : ℕ) (s : Standing p x y target carry z top) where
+  abbrev n : ℕ
+  n = length target
+
+  abbrev a : Aligned x y n
+  a = s .aligned
+
+  abbrev course : Course x y z
+  course = s .course
+
+  abbrev d : Ordered x y
+  d = course .ordered
+
+  P : 0 < p
+  P = room-pos p n (s .room)
+
+  pub some : 1 ≤ n
+  some = room-some p n (s .room)
+
+  pub limbs-few : n ≤ 64
+  unfolding limbsFor mostPrecision
+  limbs-few = omega (arith, s .room .count, s .room .most)
+
+  pub near : n ≤ deepest
+  near = omega (arith, limbs-few, deep-enough)
+
+  leads-after : (k : ℕ) → z < k → Leads x y k
+  leads-after k h = subst (Leads x y) places (leads-later x y (suc z) (k - suc z) (course .larger))
+    where
+      places : suc z + (k - suc z) ≡ k
+      places = omega arith
+
+  pub leads-all : Leads x y n
+  leads-all = leads-after n (s .within)
+
+  pub fixed : decideAt o p x y n ≡ true
+  unfolding verdict
+  fixed = decision o p P x y n d some leads-all ∙ ap (verdict o p x y n) (row x y n a)
+
+  pub answer : add o p x y ≡ rounded (way o (x .negative)) p (x .exponent - 64 * n - 1) (x .negative) (2 * readSum x y n + bit false)
+  unfolding settledBy moreOf
+  answer = row-sum o p P x y n d some leads-all Exact (row x y n a) (columns-above x (a .first) (a .first-regular) n (omega (arith, near))) refl
+
+  -- ---- one column fewer
+
+  module _ (more : 1 < n) where
+    abbrev k : ℕ
+    k = n - 1
+
+    abbrev q : Pair
+    q = pairOf x y
+
+    K : 1 ≤ k
+    K = omega arith
+
+    digits-asked : 64 * k < p
+    unfolding limbsFor
+    digits-asked = omega (arith, s .room .count)
+
+    unread : (leb (q .first) (64 * k) && leb (q .gap + q .second) (64 * k)) ≡ false
+    unread = rw (lt-leb (q .first) (64 * k) (omega (arith, pair-first x y, first-needs x y n a))) refl
+
+    above : 64 * k ≤ q .top
+    above = omega (arith, pair-top x y, columns-above x (a .first) (a .first-regular) n (omega (arith, near)))
+
+    short : size (readSum x y k) ≤ p
+    short = go (q .same) refl
+      where
+        go : (b : Bool) → q .same ≡ b → size (readSum x y k) ≤ p
+        go true e =
+            let back : suc (k - 1) ≡ k = omega arith in
+            let below : readSum x y k < 2 ^ suc (64 * k) = rw (pow-succ' 2 (64 * k)) (subst (λ (m : ℕ). readSum x y m < 2 * 2 ^ (64 * m)) back (sum-below x y (k - 1) d e)) in
+            omega (arith, size-le (readSum x y k) (suc (64 * k)) below, digits-asked)
+        go false e =
+            let below : readSum x y k < 2 ^ (64 * k) = rw (difference-is x y k d k e) (less (readTo k 0 (x .limbs)) (readTo k (q .gap) (y .limbs)) (2 ^ (64 * k)) (read-lt 0 (x .limbs) (a .first .limb) k)) in
+            omega (arith, size-le (readSum x y k) (64 * k) below, digits-asked)
+          where
+            less : (i j m : ℕ) → i < m → i - j < m
+            less i j m h = omega arith
+
+    calm : q .same ≡ false → ltb (q .top + 1) (leastExponent + 64 * k) ≡ false
+    calm e = le-ltb (q .top + 1) (leastExponent + 64 * k) (omega (arith, pair-top x y, s .top-is, ltb-false (top + 1) (leastExponent + 64 * n) (s .low e)))
+
+    parted-open : z < k → decideAt o p x y k ≡ false
+    parted-open h = short-open o p P x y k d K (leads-after k h) (a .second-regular) above (λ e. rw (pair-top x y, ← s .top-is) (s .high e)) calm (omega (arith, no-gap x y n a)) unread short
+
+  pub first : 1 < n → decideAt o p x y (n - 1) ≡ false
+  first more = elim (decLe (n - 1) z) [
+    | yes h ↦ let e : z ≡ n - 1 = omega arith in subst (λ (m : ℕ). decideAt o p x y m ≡ false) e (open-before o p x y z course target (s .room) (omega arith))
+    | no h ↦ parted-open more (omega arith)
+  ]

@@ -1,0 +1,5 @@
+pub mod AllRead
+pub mod Parting
+pub mod Whole
+pub mod Stands
+pub mod AsFound

@@ -1,0 +1,142 @@
+-- Where two runs of one length part: the limbs above are alike, so that the limbs below have their difference. Assumes nothing.
+use mathlib.Core.Path.{_≡_, refl, sym, ap, _∙_}
+use mathlib.Core.Bool.{true, false, Bool·beq, true≢false}
+use mathlib.Core.List.{List, []}
+use Prim.Native.Nat.{ℕ, suc, _+_, _-_, _*_, _/_, _^_, _≤_, _<_}
+use native.Mathlib.Nat.{mul-le-mul-left}
+use native.Mathlib.Omega.{arith}
+use lib.ListN.{length, take, drop, getD, drop-of-length-le}
+use Rattle.limb.specs.Value.{valueOf, valueIn, Below}
+use Rattle.limb.proofs.Value.{value-split, value-take, value-drop, value-take-lt, value-shr, base-pow}
+use Rattle.numbers.specs.Operand.{Operand}
+use Rattle.columns.specs.Column.{readTo}
+use Rattle.leap.proofs.Leaping.{read-down}
+use Rattle.bridge.specs.Verdict.{pairOf, Ordered, readSum}
+use Rattle.bridge.proofs.Told.{pair-same}
+use Rattle.descent.specs.Course.{Course}
+use Rattle.descent.proofs.GoingOn.{secondRead, sum-is, difference-is}
+use Rattle.ending.proofs.Handed.{course-first}
+use Rattle.ending.proofs.RegularEnd.{deep-enough}
+use Rattle.aligned.specs.Aligned.{Aligned, Parted}
+use Rattle.aligned.proofs.AllRead.{no-gap}
+
+-- ---- the loop
+
+-- one limb more that is alike
+pub alike-more : (n i : ℕ) (a b : List ℕ) → i < n → getD a (n - 1 - i) 0 ≡ getD b (n - 1 - i) 0 → valueOf (drop (n - i) b) ≡ valueOf (drop (n - i) a) → valueOf (drop (n - (i + 1)) b) ≡ valueOf (drop (n - (i + 1)) a)
+alike-more n i a b h e l =
+    let j : n - (i + 1) ≡ n - 1 - i = omega arith in
+    let k : suc (n - 1 - i) ≡ n - i = omega arith in
+    rw (j, value-drop (2 ^ 64) (n - 1 - i) a, value-drop (2 ^ 64) (n - 1 - i) b, k, l, e) refl
+
+pub alike-none : (a b : List ℕ) → length b ≡ length a → valueOf (drop (length a - 0) b) ≡ valueOf (drop (length a - 0) a)
+alike-none a b e =
+    let none-a : drop (length a - 0) a ≡ [] = drop-of-length-le a {i = length a - 0} (omega arith) in
+    let none-b : drop (length a - 0) b ≡ [] = drop-of-length-le b {i = length a - 0} (omega arith) in
+    rw (none-a, none-b) refl
+
+-- ---- columns and limbs
+
+-- the first k columns of a run of no fewer limbs are its top k limbs
+read-top : (l : List ℕ) → Below (2 ^ 64) l → (k : ℕ) → k ≤ length l → readTo k 0 l ≡ valueOf (drop (length l - k) l)
+read-top l below k h =
+    sym (read-down k 0 l (omega arith)) ∙ ap (λ (m : ℕ). valueOf l / 2 ^ m) (places (length l) h) ∙ ap (λ (m : ℕ). valueOf l / m) (sym (base-pow (length l - k))) ∙ value-shr (2 ^ 64) (length l - k) l below
+  where
+    places : (n : ℕ) → k ≤ n → 64 * n + 0 - 64 * k ≡ 64 * (n - k)
+    places n h = omega arith
+
+read-all : (l : List ℕ) → Below (2 ^ 64) l → (n : ℕ) → length l ≡ n → readTo n 0 l ≡ valueOf l
+read-all l below n e = rw (← e) (read-top l below (length l) (omega arith) ∙ ap (λ (m : ℕ). valueOf (drop m l)) none)
+  where
+    none : length l - length l ≡ 0
+    none = omega arith
+
+-- ---- the sum of two operands that are aligned
+
+module _ (x y : Operand) (n : ℕ) (a : Aligned x y n) where
+  abbrev X : ℕ
+  X = valueOf (x .limbs)
+
+  abbrev Y : ℕ
+  Y = valueOf (y .limbs)
+
+  pub ordered : Ordered x y
+  ordered = record { first = a .first; second = a .second; regular = a .first-regular; order = λ e. omega (arith, a .even) }
+
+  first-all : readTo n 0 (x .limbs) ≡ X
+  first-all = read-all (x .limbs) (a .first .limb) n (a .first-limbs)
+
+  second-all : readTo n (pairOf x y .gap) (y .limbs) ≡ Y
+  second-all = rw (no-gap x y n a) (read-all (y .limbs) (a .second .limb) n (a .second-limbs))
+
+  pub same-told : Bool·beq (x .negative) (y .negative) ≡ true → pairOf x y .same ≡ true
+  same-told e = pair-same x y (a .second-regular) ∙ e
+
+  pub unlike-told : Bool·beq (x .negative) (y .negative) ≡ false → pairOf x y .same ≡ false
+  unlike-told e = pair-same x y (a .second-regular) ∙ e
+
+  pub sum-all : pairOf x y .same ≡ true → readSum x y n ≡ X + Y
+  unfolding secondRead
+  sum-all e = sum-is x y n ordered n e ∙ rw (first-all, second-all, a .second-regular) refl
+
+  pub difference-all : pairOf x y .same ≡ false → readSum x y n ≡ X - Y
+  difference-all e = difference-is x y n ordered n e ∙ rw (first-all, second-all) refl
+
+  pub course-sum : pairOf x y .same ≡ true → Course x y 0
+  course-sum e = course-first x y ordered (λ f. absurd (true≢false (sym e ∙ f)))
+
+-- ---- their difference
+
+-- alike above limb i, the first has the larger limb there
+module _ (B i : ℕ) (a b : List ℕ) (below : Below B b) (larger : getD b i 0 < getD a i 0) where
+  pub part-less : valueIn B (take (suc i) b) < valueIn B (take (suc i) a)
+  part-less = omega (arith, value-take B i a, value-take B i b, value-take-lt B i b below, mul-le-mul-left (B ^ i) larger)
+
+module _ (x y : Operand) (n z : ℕ) (t : Parted x y n z) (few : n ≤ 64) where
+  abbrev a : Aligned x y n
+  a = t .aligned
+
+  pub apart : pairOf x y .same ≡ false
+  apart = unlike-told x y n a (t .unlike)
+
+  abbrev m : ℕ
+  m = n - z
+
+  last : suc (n - 1 - z) ≡ m
+  last = omega (arith, t .within)
+
+  -- the limbs below those that are alike
+  pub lower-less : valueOf (take m (y .limbs)) < valueOf (take m (x .limbs))
+  lower-less = rw (← last) (part-less (2 ^ 64) (n - 1 - z) (x .limbs) (y .limbs) (a .second .limb) (t .larger))
+
+  top-read : (k : ℕ) → k ≤ n → (readTo k 0 (x .limbs) ≡ valueOf (drop (n - k) (x .limbs))) × (readTo k (pairOf x y .gap) (y .limbs) ≡ valueOf (drop (n - k) (y .limbs)))
+  top-read k h = (rw (a .first-limbs) at (read-top (x .limbs) (a .first .limb) k (omega (arith, a .first-limbs))), rw (no-gap x y n a) (rw (a .second-limbs) at (read-top (y .limbs) (a .second .limb) k (omega (arith, a .second-limbs)))))
+
+  next-larger : valueOf (drop (n - suc z) (y .limbs)) < valueOf (drop (n - suc z) (x .limbs))
+  next-larger =
+      let j : n - suc z ≡ n - 1 - z = omega arith in
+      rw (j, value-drop (2 ^ 64) (n - 1 - z) (x .limbs), value-drop (2 ^ 64) (n - 1 - z) (y .limbs), last, t .level) (more (valueOf (drop m (x .limbs))) (t .larger))
+    where
+      more : (v : ℕ) {i j : ℕ} → i < j → i + 2 ^ 64 * v < j + 2 ^ 64 * v
+      more v h = omega arith
+
+  pub course-parted : Course x y z
+  course-parted =
+      let here = top-read z (omega (arith, t .within)) in
+      let next = top-read (suc z) (t .within) in
+      record {
+        ordered = ordered x y n a;
+        sum = λ e. absurd (true≢false (sym e ∙ apart));
+        level = λ e. here .1 ∙ t .level ∙ sym (here .0);
+        larger = λ e. rw (next .0, next .1) next-larger;
+        near = omega (arith, deep-enough, t .within, few);
+      }
+
+  -- what is read is the difference of the limbs below
+  pub difference-below : readSum x y n ≡ valueOf (take m (x .limbs)) - valueOf (take m (y .limbs))
+  difference-below =
+      difference-all x y n a apart
+      ∙ go (valueOf (take m (x .limbs))) (valueOf (take m (y .limbs))) (valueOf (drop m (x .limbs))) (valueOf (drop m (y .limbs))) ((2 ^ 64) ^ m) (value-split (2 ^ 64) m (x .limbs)) (value-split (2 ^ 64) m (y .limbs)) (t .level)
+    where
+      go : (u v q r P : ℕ) {X Y : ℕ} → X ≡ u + P * q → Y ≡ v + P * r → r ≡ q → X - Y ≡ u - v
+      go u v q r P e f g = let h : P * r ≡ P * q = ap (λ (i : ℕ). P * i) g in omega arith

@@ -1,0 +1,62 @@
+-- Two numbers of one exponent that have as many limbs as the target. Definitions only.
+use Prim.Native.Nat.{ℕ, _+_, _-_, _*_, _^_, _≤_, _<_}
+use mathlib.Core.Path.{_≡_}
+use mathlib.Core.Bool.{Bool, true, false, Bool·beq}
+use mathlib.Core.List.{List}
+use lib.Dec.{ltb}
+use lib.ListN.{length, take, drop, getD}
+use Rattle.limb.specs.Value.{valueOf}
+use Rattle.limb.specs.Carry.{bit}
+use Rattle.numbers.specs.Limits.{leastExponent, mostExponent}
+use Rattle.numbers.specs.Operand.{Operand, WellFormed}
+use Rattle.bridge.specs.Verdict.{pairOf, readSum}
+use Rattle.descent.specs.Ready.{Room}
+use Rattle.descent.specs.Course.{Course}
+
+-- two regular operands of one exponent, and n limbs of each
+pub record Aligned (x y : Operand) (n : ℕ) : Type 0 where
+  pub first : WellFormed x
+  pub second : WellFormed y
+  pub first-regular : x .isZero ≡ false
+  pub second-regular : y .isZero ≡ false
+  pub even : y .exponent ≡ x .exponent
+  pub first-limbs : length (x .limbs) ≡ n
+  pub second-limbs : length (y .limbs) ≡ n
+
+-- of two runs of one length z limbs at the top are alike, and no more
+pub record Alike (a b : List ℕ) (z : ℕ) : Type 0 where
+  pub within : z ≤ length a
+  pub level : valueOf (drop (length a - z) b) ≡ valueOf (drop (length a - z) a)
+  pub next : z < length a → getD a (length a - 1 - z) 0 ≡ getD b (length a - 1 - z) 0 → ⊥
+
+-- their signs are unlike, z limbs at the top alike, and the next one of the first is larger
+pub record Parted (x y : Operand) (n z : ℕ) : Type 0 where
+  pub aligned : Aligned x y n
+  pub unlike : Bool·beq (x .negative) (y .negative) ≡ false
+  pub within : z < n
+  pub level : valueOf (drop (n - z) (y .limbs)) ≡ valueOf (drop (n - z) (x .limbs))
+  pub larger : getD (y .limbs) (n - 1 - z) 0 < getD (x .limbs) (n - 1 - z) 0
+
+-- two runs of n limbs, of which the first is no less below the top z
+pub record Reducible (first second : List ℕ) (n z : ℕ) : Type 0 where
+  pub within : z ≤ n
+  pub first-limbs : length first ≡ n
+  pub second-limbs : length second ≡ n
+  pub less : valueOf (take (n - z) second) ≤ valueOf (take (n - z) first)
+
+-- their difference below the top z limbs, moved up by as many
+pub record Subtracted (first second before after : List ℕ) (z : ℕ) : Type 0 where
+  pub size : length after ≡ length before
+  pub value : valueOf after ≡ (valueOf (take (length before - z) first) - valueOf (take (length before - z) second)) * 2 ^ (64 * z)
+
+-- all that there is of their sum stands in the target, moved up by z columns, with a carry on top, and no refusal is near
+pub record Standing (p : ℕ) (x y : Operand) (target : List ℕ) (carry : Bool) (z top : ℕ) : Type 0 where
+  pub room : Room p (length target)
+  pub aligned : Aligned x y (length target)
+  pub course : Course x y z
+  pub within : z < length target
+  pub top-is : top ≡ x .exponent
+  pub high : pairOf x y .same ≡ true → ltb mostExponent (top + 2) ≡ false
+  pub low : pairOf x y .same ≡ false → ltb (top + 1) (leastExponent + 64 * length target) ≡ false
+  pub value : bit carry * 2 ^ (64 * length target) + valueOf target ≡ readSum x y (length target) * 2 ^ (64 * z)
+  pub led : carry ≡ false → 0 < getD target (length target - 1) 0
