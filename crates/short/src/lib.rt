@@ -14,12 +14,12 @@ ghost use Rattle.wide.specs.Attempted.{Attempted};
 ghost use Rattle.short.specs.Short.{Tells};
 
 mod two; // two.rt: two columns, and their digits from the first on
-mod near; // near.rt: less than a limb apart
-mod far; // far.rt: more than the answer apart
+mod close; // close.rt: less than a limb apart
+mod apart; // apart.rt: more than the answer apart
 
+use apart::add_apart;
 use checks::Number;
-use far::far;
-use near::near;
+use close::add_close;
 use settle::Pair;
 use wide::Wide;
 use wide::nothing;
@@ -70,12 +70,12 @@ fn add_in_order(
         if bounds::is_high(pair.top) | bounds::is_low(pair.top, target.len() as u64) {
             return nothing();
         }
-        return near(negative, p, pair, u, v, target);
+        return add_close(negative, p, pair, u, v, target);
     }
     if pair.gap <= p + 1 {
         return nothing();
     }
-    far(mode, negative, p, pair, swapped, u, target)
+    add_apart(mode, negative, p, pair, swapped, u, target)
 }
 
 // Adds two regular numbers of one limb each, unless they cancel, lie at the ends of the range, or are apart by a limb or more and no more than the answer is long.

@@ -4,8 +4,8 @@ use native.Mathlib.Omega.{arith}
 use Rattle.short.proofs.FarSum.{alone-worth, far-more, far-less, fallen-value}
 use Rattle.short.proofs.Held.{first-large}
 use borrow.Author.Needs.{needs}
-use Rattle.short.proofs.far.fill.Statement.{statement}
-use Rattle.short.proofs.far.fill.Tie as tie
+use Rattle.short.proofs.apart.fill.Statement.{statement}
+use Rattle.short.proofs.apart.fill.Tie as tie
 
 write-requires : tie.Need-write-requires
 write-requires c κs = search needs

@@ -53,7 +53,7 @@ fn combine(same: bool, u: u64, v: u64, gap: u64) -> Head
 }
 
 // Adds two limbs in order, u the larger.
-pub fn near(negative: bool, p: u64, pair: Pair, u: u64, v: u64, target: &mut [u64]) -> Wide
+pub fn add_close(negative: bool, p: u64, pair: Pair, u: u64, v: u64, target: &mut [u64]) -> Wide
     requires { ⌜ Room p (length (now target)) × (2 < length (now target)) × Offered pair (u ∷ []) (v ∷ []) × (pair .gap < 64) × (ltb mostExponent (pair .top + 2) ≡ false) × (ltb (pair .top + 1) (leastExponent + 64 * length (now target)) ≡ false) ⌝ }
     ensures { λ r. ⌜ (length (now (target .exit)) ≡ length (now (target .entry))) × (r .open ≡ false → (o : Mode) (swapped : Bool) → Tells o p pair u v negative swapped (now (target .exit)) r) ⌝ }
 {

@@ -6,8 +6,8 @@ use Rattle.descent.proofs.GoingDown.{room-kept}
 use Rattle.wide.proofs.InOrder.{limbs-weigh, unit-room, fit, in-order-told}
 use Rattle.short.proofs.FarSum.{far-counts, far-apart}
 use borrow.Author.Needs.{needs}
-use Rattle.short.proofs.far.far.Statement.{statement}
-use Rattle.short.proofs.far.far.Tie as tie
+use Rattle.short.proofs.apart.add_apart.Statement.{statement}
+use Rattle.short.proofs.apart.add_apart.Tie as tie
 
 fill-requires : tie.Need-fill-requires
 fill-requires c κs = search needs
@@ -46,8 +46,8 @@ returns c =
     let r = c .before .before .before .before .round-fit in
     (c .before .before .before .target2 .given ∙ c .before .before .before .before .before .before .before .before .target .given, λ e v z w h sign. in-order-told (s .args .mode) (s .args .p) _ (s .args .u ∷ []) (v ∷ []) _ _ (room-kept _ _ _ (c .before .before .before .before .before .before .before .before .target .given) (s .pre .0)) (f .ensures .3 v) (f .ensures .1) z w h (s .args .negative) sign (r .ensures .0) (r .ensures .1) (far-counts (s .args .swapped) _ _ _ _ (f .ensures .2) (far-apart _ _ _ (s .pre .0) (s .pre .1) (s .pre .3)) (c .before .one .ensures) (c .one2 .ensures)))
 
-pub far-spec : {M : Type 1} → statement M
-far-spec =
+pub add-apart-spec : {M : Type 1} → statement M
+add-apart-spec =
     tie.close
     (tie.spec
     fill-requires

@@ -3,8 +3,8 @@ use mathlib.Core.Path.{refl}
 use Prim.Native.Nat.{_+_}
 use borrow.Author.Tests.{le-leb, lt-leb}
 use borrow.Author.Needs.{needs}
-use Rattle.short.proofs.near.depth.Statement.{statement}
-use Rattle.short.proofs.near.depth.Tie as tie
+use Rattle.short.proofs.close.depth.Statement.{statement}
+use Rattle.short.proofs.close.depth.Tie as tie
 
 add-if1 : tie.Need-add-if1
 add-if1 c = search needs

@@ -3,8 +3,8 @@ use native.Mathlib.Omega.{arith}
 use Rattle.short.proofs.Held.{sum-leads, sum-some, second-few, top-room}
 use Rattle.short.proofs.NearSum.{near-tells}
 use borrow.Author.Needs.{needs}
-use Rattle.short.proofs.near.near.Statement.{statement}
-use Rattle.short.proofs.near.near.Tie as tie
+use Rattle.short.proofs.close.add_close.Statement.{statement}
+use Rattle.short.proofs.close.add_close.Tie as tie
 
 combine-requires : tie.Need-combine-requires
 combine-requires c κs = let s = c .before in (s .pre .3, sum-leads _ _ _ _ _ (s .pre .2 .holding) (s .pre .3))
@@ -31,8 +31,8 @@ returns c =
     let w = c .before .before .before .write in
     (w .ensures .0, λ e o swapped z y h sign. near-tells (s .args .p) _ (s .args .u) (s .args .v) _ (s .pre .0) (s .pre .1) (s .pre .3) (s .pre .4) (s .pre .5) o z y h (n .result) _ (c .before .before .before .before .before .before .combine .ensures .0) (n .ensures) (search needs) (search needs) _ (w .ensures .0) (λ i. c .before .slice-known2 .given i .fits) (w .ensures .1) (s .args .negative) sign (c .depth .result) (c .depth .ensures) swapped)
 
-pub near-spec : {M : Type 1} → statement M
-near-spec =
+pub add-close-spec : {M : Type 1} → statement M
+add-close-spec =
     tie.close
     (tie.spec
     combine-requires

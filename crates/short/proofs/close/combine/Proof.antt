@@ -3,8 +3,8 @@ use mathlib.Core.Path.{ap, _∙_}
 use Prim.Native.Nat.{ℕ, _*_, _%_, _^_}
 use Rattle.short.proofs.TwoLimbs.{combined, parted}
 use borrow.Author.Needs.{needs}
-use Rattle.short.proofs.near.combine.Statement.{statement}
-use Rattle.short.proofs.near.combine.Tie as tie
+use Rattle.short.proofs.close.combine.Statement.{statement}
+use Rattle.short.proofs.close.combine.Tie as tie
 
 columns-requires : tie.Need-columns-requires
 columns-requires c κs = search needs

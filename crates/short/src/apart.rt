@@ -8,7 +8,7 @@ ghost use Rattle.rounding.specs.Mode.{modeOf};
 ghost use Rattle.descent.specs.Ready.{Room};
 ghost use Rattle.wide.specs.Filling.{Offered, Fills};
 ghost use Rattle.short.specs.Short.{Tells};
-use crate::near::write;
+use crate::close::write;
 use settle::Pair;
 use wide::Filled;
 use wide::Wide;
@@ -46,7 +46,7 @@ fn one(some: bool) -> u64
 }
 
 // The sum of u and any limb so far below it.
-pub fn far(
+pub fn add_apart(
     mode: u8,
     negative: bool,
     p: u64,

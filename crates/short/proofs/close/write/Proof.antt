@@ -7,8 +7,8 @@ use lib.ListN.{length, set, length-set}
 use Rattle.limb.specs.Value.{valueOf}
 use Rattle.short.proofs.TwoLimbs.{written-value}
 use borrow.Author.Needs.{needs}
-use Rattle.short.proofs.near.write.Statement.{statement}
-use Rattle.short.proofs.near.write.Tie as tie
+use Rattle.short.proofs.close.write.Statement.{statement}
+use Rattle.short.proofs.close.write.Tie as tie
 
 clear-requires : tie.Need-clear-requires
 clear-requires c κs = search needs
