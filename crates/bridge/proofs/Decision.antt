@@ -6,10 +6,9 @@ use Prim.Native.Nat.{ℕ, zero, suc, _+_, _-_, _*_, _≤_, _<_}
 use native.Mathlib.Omega.{arith}
 use Rattle.numbers.specs.Operand.{Operand, mantissa}
 use Rattle.rounding.specs.Mode.{Mode}
-use Rattle.rounding.proofs.Order.{le-or-lt}
+use Rattle.rounding.proofs.Order.{le-or-lt, zero-or}
 use Rattle.decide.specs.Table.{some?, allRead, holeBySize}
 use Rattle.decide.specs.Decide.{decideAt}
-use Rattle.decide.proofs.Lean.{zero-or}
 use Rattle.columns.specs.Column.{readTo}
 use Rattle.settle.specs.Rows.{rowOf}
 use Rattle.settle.specs.declared.rows.Row.{Row}

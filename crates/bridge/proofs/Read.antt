@@ -15,7 +15,7 @@ use Rattle.numbers.specs.Limits.{limbsFor}
 use Rattle.numbers.specs.Operand.{Operand, mantissa, lastWeight, spareBits, WellFormed}
 use Rattle.numbers.proofs.Digits.{digits-and-spare, mantissa-lt, mantissa-ge, precision-two}
 use Rattle.rounding.proofs.Order.{le-or-lt}
-use Rattle.rounding.proofs.Even.{size-is}
+use Rattle.limb.proofs.Sizes.{size-is}
 use Rattle.depth.specs.Read.{unread}
 use Rattle.depth.proofs.Columns.{digits-counted}
 use Rattle.decide.specs.Decide.{readPart}

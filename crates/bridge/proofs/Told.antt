@@ -8,6 +8,7 @@ use native.Mathlib.Omega.{arith}
 use borrow.Author.Tests.{lt-ltb, le-ltb, le-leb, lt-leb, ne-eqb}
 use lib.Dec.{ltb, eqb}
 use lib.Ieee.{size}
+use Rattle.rounding.proofs.Order.{zero-or}
 use Rattle.numbers.specs.Operand.{Operand, mantissa, lastWeight}
 use Rattle.numbers.proofs.Digits.{precision-two}
 use Rattle.rounding.specs.Mode.{Mode, Way, way}
@@ -22,7 +23,6 @@ use Rattle.decide.specs.Range.{large?, small?, orSmall}
 use Rattle.decide.specs.Table.{some?, allRead, sameSigns, unlikeSigns, unlikePair, seenPair, farPair, farSame, farUnlike, holeBySize, sameRow, unlikeRow}
 use Rattle.decide.specs.Decide.{reaches?, readPart, leftOver, beyond, decideAt}
 use Rattle.decide.specs.Answer.{seenAnswer, sameAnswer, unlikeAnswer, unlikePairAnswer, farAnswer, beyondAnswer, answerAt}
-use Rattle.decide.proofs.Lean.{zero-or}
 use Rattle.decide.proofs.Rows.{Seen, Held, same-one, sides-same-one}
 use Rattle.decide.proofs.Range.{only-large, only-small}
 use Rattle.decide.proofs.ReadPart.{seen-is, seen-held, seen-pos}

@@ -9,15 +9,13 @@ use lib.ListN.{length, getD, List·getD-eq-default}
 use lib.Bits.{bitOr, or-comm, or-zero-r}
 use lib.Pow.{pow-add, pow-pos, pow-mono, shl-lt}
 use borrow.Author.Tests.{lt-ltb, le-ltb}
+use Rattle.limb.proofs.Powers.{moved-twice}
 use Rattle.limb.specs.Value.{valueOf, valueIn, Below}
 use Rattle.limb.proofs.Value.{value-lt, base-pow}
 use Rattle.shifts.proofs.Windows.{whole, across}
 use Rattle.columns.specs.Column.{readTo, columnOf, limbBelow}
 
 -- moved up by m and n bits at once
-moved-twice : (x m n : ℕ) → x * 2 ^ (m + n) ≡ x * 2 ^ m * 2 ^ n
-moved-twice x m n = ap (λ (p : ℕ). x * p) (pow-add 2 m n) ∙ sym (mul-assoc x (2 ^ m) (2 ^ n))
-
 value-small : (l : List ℕ) → Below (2 ^ 64) l → valueOf l < 2 ^ (64 * length l)
 value-small l h = rw (base-pow (length l)) at (value-lt (2 ^ 64) l h)
 
@@ -47,9 +45,6 @@ module _ (gap : ℕ) (l : List ℕ) where
     read-early k e =
         let fits : valueOf l * 2 ^ (64 * k) < 2 ^ (64 * length l + 64 * k) = shl-lt (64 * length l) (64 * k) (value-small l h) in
         div-eq-of-lt (omega (arith, fits, pow-mono {i = 64 * length l + 64 * k} {j = 64 * length l + gap} (omega arith)))
-
-    pub read-none : readTo 0 gap l ≡ 0
-    read-none = read-early 0 (omega arith)
 
     pub read-lt : (k : ℕ) → readTo k gap l < 2 ^ (64 * k)
     unfolding readTo

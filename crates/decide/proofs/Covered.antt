@@ -7,6 +7,7 @@ use Prim.Native.Nat.{ℕ, zero, suc, _+_, _-_, _*_, _^_, _≤_, _<_, compare, Or
 use native.Mathlib.Nat.{le-trans, le-of-eq, le-of-lt, lt-of-lt-of-le, lt-of-le-of-lt, lt-of-mul-lt-mul-right, mul-lt-mul-of-pos-right, mul-le-mul-right, mul-assoc, pow-succ', add-comm, add-mul}
 use native.Mathlib.Omega.{arith}
 use lib.Pow.{pow-pos, pow-mono, pow-add}
+use Rattle.depth.proofs.Exchange.{top-exchange, first-some}
 use Rattle.numbers.specs.Operand.{Operand, lastWeight, WellFormed}
 use Rattle.rounding.specs.Mode.{Mode, Way, way}
 use Rattle.rounding.specs.Answer.{Answer, tooLarge, tooSmall, rounded, answer}
@@ -19,7 +20,7 @@ use Rattle.depth.specs.Read.{unread}
 use Rattle.depth.specs.Depth.{plus, Fixed}
 use Rattle.decide.specs.Decide.{reaches?, readPart, leftOver}
 use Rattle.depth.proofs.Columns.{digits-counted}
-use Rattle.depth.proofs.Place.{top-swap, top-first, top-second, scale-first, scale-second, other-top}
+use Rattle.depth.proofs.Place.{top-first, top-second, scale-first, scale-second, other-top}
 use Rattle.depth.proofs.Reach.{end, at-most}
 use Rattle.depth.proofs.Amounts.{amount-end}
 use Rattle.depth.proofs.EndsDecide.{up}
@@ -324,7 +325,7 @@ module _ (o : Mode) (p : ℕ) (P : 0 < p) (x y : Operand) (g : WellFormed x) (h 
     | inl c ↦ c
     | inr c ↦
         let u = not-reached t k x f in
-        let e = top-swap x y (u .0) in
+        let e = top-exchange x y (first-some x y (u .0)) in
         let v = other-top y x k K (u .0) (rw e at (u .1)) in
         let w = suc-of (unread t k y) n in
         let d = far-mids p t k s y x h g (v .0) (u .0) (e ∙ v .1) (scale-second x y (v .0)) (scale-first x y (u .0)) (u .1) K c (w .0) (w .1) in

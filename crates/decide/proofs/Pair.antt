@@ -12,8 +12,7 @@ use lib.Ieee.{size}
 use Rattle.rounding.specs.Mode.{Mode, Way, way}
 use Rattle.rounding.specs.Answer.{Answer, zeroOf, rounded, answer}
 use Rattle.numbers.specs.Limits.{leastExponent, mostExponent}
-use Rattle.rounding.proofs.Order.{Cmp, cmp, compare-at, size-mono}
-use Rattle.decide.proofs.Lean.{zero-or}
+use Rattle.rounding.proofs.Order.{Cmp, cmp, compare-at, size-mono, zero-or}
 use Rattle.rounding.proofs.Ends.{plus as positive, minus as negative, nought}
 use Rattle.decide.specs.Class.{settled}
 use Rattle.decide.specs.Range.{decided, orLarge, orSmall}

@@ -10,8 +10,8 @@ use lib.Dec.{eqb}
 use lib.Pow.{pow-pos, pow-mono}
 use lib.Ieee.{size}
 use Rattle.numbers.specs.Limits.{leastExponent, mostExponent}
-use Rattle.rounding.proofs.Order.{size-mono}
-use Rattle.decide.proofs.Lean.{Part, zero-or}
+use Rattle.rounding.proofs.Order.{size-mono, zero-or}
+use Rattle.decide.proofs.Lean.{Part}
 use Rattle.decide.specs.Table.{some?}
 use Rattle.decide.proofs.Settled.{Span}
 use Rattle.decide.proofs.Range.{Sides}

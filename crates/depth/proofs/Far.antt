@@ -5,6 +5,7 @@ use Prim.Native.Nat.{ℕ, zero, suc, _+_, _-_, _*_, _^_, _≤_, _<_, min, max}
 use native.Mathlib.Nat.{two-pow-succ, suc-mul, le-trans, le-of-eq, lt-of-lt-of-le, mul-le-mul-right, mul-one}
 use native.Mathlib.Omega.{arith}
 use lib.Pow.{pow-pos, pow-mono, pow-add}
+use Rattle.rounding.proofs.Zeros.{amount-is}
 use Rattle.numbers.specs.Operand.{Operand, mantissa, lastWeight, WellFormed}
 use Rattle.rounding.specs.Mode.{Mode, way}
 use Rattle.rounding.specs.Answer.{Answer, rounded, answer}
@@ -16,7 +17,7 @@ use Rattle.rounding.proofs.Selection.{multiple}
 use Rattle.numbers.proofs.Digits.{mantissa-lt, mantissa-ge, precision-two}
 use Rattle.depth.proofs.Columns.{digits-counted}
 use Rattle.depth.proofs.Place.{top-first}
-use Rattle.depth.proofs.Amounts.{amount-is, low-like, like-self}
+use Rattle.depth.proofs.Amounts.{low-like, like-self}
 use Rattle.rounding.proofs.Ends.{plus as positive, minus as negative}
 use Rattle.depth.proofs.EndsDecide.{sum-is}
 use Rattle.depth.proofs.AllRead.{all-read, amount-same}

@@ -1,7 +1,7 @@
 -- Where the rest of D lies inside a half, no carry and no borrow from below changes what is selected. Assumes nothing.
 use mathlib.Core.Path.{_≡_, refl, sym, ap, _∙_, subst}
 use mathlib.Core.Logic.{_⊎_, inl, inr}
-use mathlib.Core.Bool.{Bool, true, false, not, _&&_, _||_, true≢false}
+use mathlib.Core.Bool.{Bool, true, false, not, _&&_, _||_}
 use mathlib.Core.List.{List}
 use Prim.Native.Nat.{ℕ, zero, suc, _+_, _-_, _*_, _/_, _%_, _^_, _≤_, _<_, compare, Ordering, Ordering·lt, Ordering·gt}
 use native.Mathlib.Nat.{mod-lt, add-mul-mod-self-left}
@@ -11,6 +11,7 @@ use lib.Dec.{ltb, leb, eqb}
 use lib.ListN.{length, drop, getD}
 use lib.Pow.{pow-pos, pow-add, mod-pow-add}
 use lib.Ieee.{size}
+use Rattle.limb.proofs.Tests.{both-true}
 use Rattle.limb.specs.Value.{valueOf}
 use Rattle.limb.specs.Carry.{bit}
 use Rattle.limb.proofs.Value.{value-drop}
@@ -156,10 +157,6 @@ inside-told p n w target f d long few t k D s =
     low = low-digits w target f k D s (n - p - 1) (omega arith)
 
 -- ---- the test on a limb
-
-both-true : (a b : Bool) → (a && b) ≡ true → (a ≡ true) × (b ≡ true)
-both-true true b e = (refl, e)
-both-true false b e = absurd (true≢false (sym e))
 
 pub limb-inside : (low half h : ℕ) → half ≡ h → (ltb 0 (low % half) && ltb (low % half) (half - 1)) ≡ true → (1 ≤ low % h) × (low % h + 1 < h)
 limb-inside low half h e t = rw (sym e) (let u = both-true _ _ t in (ltb-true 0 (low % half) (u .0), omega (arith, ltb-true (low % half) (half - 1) (u .1))))

@@ -4,13 +4,14 @@ use mathlib.Core.Logic.{inl, inr}
 use mathlib.Core.Bool.{Bool, true, false, not, cond, _&&_, Bool·beq}
 use mathlib.Core.List.{List}
 use Prim.Native.Nat.{ℕ, zero, suc, _+_, _-_, _*_, _/_, _%_, _^_, _≤_, _<_}
-use native.Mathlib.Nat.{le-trans, le-of-eq, lt-of-lt-of-le, le-div-iff-mul-le, mod-eq-sub-mod, mod-eq-of-lt, mul-le-mul-right, pow-succ'}
+use native.Mathlib.Nat.{le-trans, le-of-eq, lt-of-lt-of-le, le-div-iff-mul-le, mod-eq-sub-mod, mod-eq-of-lt, pow-succ'}
 use native.Mathlib.Omega.{arith}
 use borrow.Author.Tests.{eq-eqb, ne-eqb}
 use lib.Dec.{eqb}
 use lib.ListN.{length, getD}
 use lib.Pow.{pow-pos, pow-add, shr-lt, mod-pow-add, field}
 use lib.Ieee.{size}
+use Rattle.limb.proofs.Tests.{zero-times}
 use Rattle.limb.specs.Value.{valueOf, Below}
 use Rattle.limb.proofs.Value.{value-lt, base-pow}
 use Rattle.numbers.specs.Limits.{mostPrecision, limbsFor}
@@ -22,7 +23,7 @@ use Rattle.checks.proofs.Tests.{spare-lt}
 use Rattle.rounding.specs.Mode.{Mode, way}
 use Rattle.rounding.specs.Mode as mode
 use Rattle.rounding.proofs.Order.{le-or-lt}
-use Rattle.rounding.proofs.Even.{size-is}
+use Rattle.limb.proofs.Sizes.{size-is}
 use Rattle.decide.specs.Table.{some?, odd?, hole?, holeBySize}
 use Rattle.settle.specs.Ways.{wayIs}
 use Rattle.hole.specs.Hole.{Formed, Signs}
@@ -36,13 +37,6 @@ only-first m P l h = ap (λ (v : ℕ). eqb v 0) (mod-eq-sub-mod l ∙ mod-eq-of-
   | inl k ↦ eq-eqb (m - P) 0 (omega arith) ∙ sym (eq-eqb m P (omega arith))
   | inr k ↦ ne-eqb (m - P) 0 (λ e. omega arith) ∙ sym (ne-eqb m P (λ e. omega arith))
 ]
-
-zero-times : (a B : ℕ) → 0 < B → eqb (a * B) 0 ≡ eqb a 0
-zero-times zero B h = eq-eqb (0 * B) 0 (omega arith)
-zero-times (suc a) B h = ne-eqb (suc a * B) 0 (λ e. omega (arith, mul-le-mul-right B (one a))) ∙ sym (ne-eqb (suc a) 0 (λ e. omega arith))
-  where
-    one : (a : ℕ) → 1 ≤ suc a
-    one a = omega arith
 
 module _ (p : ℕ) (l : List ℕ) (f : Formed p l) where
   abbrev b : ℕ

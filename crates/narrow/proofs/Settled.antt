@@ -11,6 +11,7 @@ use lib.Dec.{leb}
 use lib.Count.{leadingZeros, leading-top}
 use lib.Ieee.{size}
 use lib.Pow.{pow-add, pow-mono}
+use Rattle.limb.proofs.Tests.{both-true}
 use Rattle.limb.specs.Value.{valueIn}
 use Rattle.limb.specs.Carry.{bit}
 use Rattle.limb.proofs.Carry.{bit-byte}
@@ -21,8 +22,7 @@ use Rattle.rounding.specs.Mode.{Mode, way}
 use Rattle.rounding.specs.Answer.{rounded}
 use Rattle.rounding.specs.Sum.{add}
 use Rattle.decide.specs.Decide.{decideAt}
-use Rattle.decide.proofs.Settled.{and-true}
-use Rattle.remnant.proofs.Sizes.{size-is}
+use Rattle.limb.proofs.Sizes.{size-is}
 use Rattle.place.specs.Placed.{runNumber}
 use Rattle.settle.specs.Rows.{rowOf}
 use Rattle.settle.specs.declared.rows.Pair.{Pair}
@@ -125,10 +125,6 @@ either true b c t e f = absurd (true≢false e)
 either false true c t e f = absurd (true≢false f)
 either false false c t e f = t
 
-other : (a b : Bool) → (a || b) ≡ true → a ≡ false → b ≡ true
-other true b t e = absurd (true≢false e)
-other false b t e = t
-
 here : (pair : Pair) (x y : Operand) → pair ≡ pairOf x y → {row : Row} → rowOf pair 1 ≡ row → rowOf (pairOf x y) 1 ≡ row
 here pair x y is e = ap (λ (s : Pair). rowOf s 1) (sym is) ∙ e
 
@@ -179,14 +175,14 @@ module _ (p : ℕ) (pair : Pair) (u : ℕ) (f : Facing p pair u) where
       where
         all : DifferenceCase pair → All p pair D (2 * (D * 2 ^ 64) + bit (hasMore pair))
         all (read row g) o x y d reg is lead e = rw (g, ← e) (exact-says p P o x y d lead (here pair x y is row))
-        all (short row g a) o x y d reg is lead e = rw (g, ← e) (plus-says p P o x y d lead (rw e (i (other whole inside t (ew ∙ a)))) false false true (here pair x y is row))
-        all (less row a) o x y d reg is lead e = rw (← e) (minus-says p P o x y d lead (rw e (i (other whole inside t (ew ∙ a)))) _ (here pair x y is row))
+        all (short row g a) o x y d reg is lead e = rw (g, ← e) (plus-says p P o x y d lead (rw e (i (second-true whole inside t (ew ∙ a)))) false false true (here pair x y is row))
+        all (less row a) o x y d reg is lead e = rw (← e) (minus-says p P o x y d lead (rw e (i (second-true whole inside t (ew ∙ a)))) _ (here pair x y is row))
 
     pub hole-found : isHole pair ≡ true → (v : ℕ) → v < 2 ^ 64 → (r : Column) → r ≡ record { fixed = true; carry = false; limb = u - 1; guard = 18446744073709551615; more = true } → Found p pair u v r
     hole-found hole v lt r is = record { ahead = λ e. rw none (omega (arith, f .led)); settles = subst (λ (n : ℕ). Settles p pair n r) (sym (read-difference pair u v same ∙ ap (λ (n : ℕ). u - n) none ∙ flat u)) (rw is settles) }
       where
         none : v / 2 ^ pair .gap ≡ 0
-        none = part-none v (pair .gap) lt (leb-true 64 (pair .gap) (and-true (leb (pair .first) 64) (leb 64 (pair .gap)) hole .1))
+        none = part-none v (pair .gap) lt (leb-true 64 (pair .gap) (both-true (leb (pair .first) 64) (leb 64 (pair .gap)) hole .1))
 
         flat : (n : ℕ) → n - 0 ≡ n
         flat n = omega arith

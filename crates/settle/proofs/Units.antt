@@ -10,7 +10,7 @@ use lib.Pow.{pow-pos, pow-add, mod-mod-pow}
 use lib.Ieee.{size}
 use lib.Ieee.Digits.{size-lt, size-reaches}
 use Rattle.rounding.proofs.Order.{le-or-lt, mul-one-one}
-use Rattle.rounding.proofs.Even.{size-is}
+use Rattle.limb.proofs.Sizes.{size-is}
 
 pub and-swap : (a b : Bool) → (a && b) ≡ (b && a)
 and-swap true true = refl

@@ -9,7 +9,7 @@ use borrow.Rule.Slice.PartMut.{putMid, post-is}
 use lib.Dec.{ltb, leb, eqb}
 use lib.ListN.{length, take, drop, length-append, length-take, length-drop, drop-of-length-le}
 use lib.Seq.{take-at, take-append-add, drop-at, drop-length, drop-drop, length-take-le}
-use Rattle.checks.proofs.Tables.{both}
+use Rattle.limb.proofs.Tests.{both-true, true-false}
 use Rattle.parts.proofs.Parts.{part-is}
 use Rattle.lines.specs.Writing.{onto}
 use Rattle.desklines.specs.Answer.{Answered, longestAnswer}
@@ -56,18 +56,15 @@ module _ (s : State) (out : List ℕ) where
   pub is-ready : isReady s out ≡ true → Ready
   unfolding isReady
   is-ready e =
-      let a = both (ltb (s .held .lines) 3) _ e in
-      let b = both (eqb (length (s .first)) lineRoom) _ (a .1) in
-      let c = both (eqb (length (s .second)) lineRoom) _ (b .1) in
-      let d = both (eqb (length (s .third)) lineRoom) _ (c .1) in
+      let a = both-true (ltb (s .held .lines) 3) _ e in
+      let b = both-true (eqb (length (s .first)) lineRoom) _ (a .1) in
+      let c = both-true (eqb (length (s .second)) lineRoom) _ (b .1) in
+      let d = both-true (eqb (length (s .third)) lineRoom) _ (c .1) in
       record {
         few = ltb-true (s .held .lines) 3 (a .0);
         rooms = record { first = eqb-true _ _ (b .0); second = eqb-true _ _ (c .0); third = eqb-true _ _ (d .0) };
         room = leb-true longestAnswer (length out) (d .1);
       }
-
-pub true-false : {b : Bool} → b ≡ true → b ≡ false → ⊥
-true-false p q = let z : _≡_ {A = ℕ} 0 1 = cc in omega arith
 
 taken-le : (g : Group) (bytes : List ℕ) → taken g bytes ≤ length bytes
 unfolding taken

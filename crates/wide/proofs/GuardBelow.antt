@@ -27,7 +27,7 @@ use Rattle.place.specs.Placed.{runNumber}
 use Rattle.kept.proofs.Reaching.{top-apart}
 use Rattle.columns.specs.Column.{readTo, columnOf}
 use Rattle.columns.proofs.Reading.{read-more, read-lt}
-use Rattle.remnant.proofs.Sizes.{size-is}
+use Rattle.limb.proofs.Sizes.{size-is}
 use Rattle.leap.specs.Leap.{Within}
 use Rattle.leap.specs.Runs.{Runs}
 use Rattle.leap.specs.declared.guarded.Guarded.{Guarded}

@@ -8,6 +8,8 @@ use native.Mathlib.Omega.{arith}
 use borrow.Author.Tests.{lt-ltb, le-ltb, le-leb, eq-eqb, eqb-true, ltb-true}
 use lib.Dec.{ltb, eqb}
 use lib.ListN.{length, getD}
+use Rattle.depth.proofs.Exchange.{top-exchange, deciding-exchange}
+use Rattle.limb.proofs.Tests.{both-true}
 use Rattle.numbers.specs.Limits.{counted, leastPrecision, mostPrecision, mostExponent, limbsFor}
 use Rattle.numbers.specs.Operand.{Operand, WellFormed}
 use Rattle.rounding.specs.Mode.{Mode, modeOf}
@@ -24,14 +26,12 @@ use Rattle.place.specs.Placed.{runNumber, runAnswer, runRule, placedOf, limbsAf
 use Rattle.place.specs.Rounded.{roundedPlaced, roundedLimbs}
 use Rattle.place.proofs.Answer.{placed-passed, limbs-passed}
 use Rattle.place.proofs.Rules.{rule-none}
-use Rattle.decide.proofs.Settled.{and-true}
 use Rattle.columns.specs.Column.{readTo}
 use Rattle.settle.specs.declared.rows.Pair.{Pair}
 use Rattle.bridge.specs.Verdict.{pairOf, Ordered}
 use Rattle.bridge.proofs.Told.{pair-gap, pair-same, pair-top, top-is}
 use Rattle.bridge.proofs.Decision.{leads}
 use Rattle.bridge.proofs.Covered.{columns-above}
-use Rattle.bridge.proofs.Exchange.{top-exchange, deciding-exchange}
 use Rattle.descent.specs.Ready.{Room}
 use Rattle.descent.specs.Course.{Course}
 use Rattle.ending.specs.Finishing.{Left}
@@ -94,7 +94,7 @@ module _ (a b u v : ℕ) where
       level : b ≤ a → (a ≤ b) × (a ≡ b → u < v)
       level h =
           let f : (eqb a b && ltb u v) ≡ true = rw (le-ltb a b h) at e in
-          let t = and-true (eqb a b) (ltb u v) f in
+          let t = both-true (eqb a b) (ltb u v) f in
           let i = eqb-true a b (t .0) in
           (omega arith, λ j. ltb-true u v (t .1))
 
