@@ -7,7 +7,7 @@ use native.Mathlib.Nat.{le-refl, le-trans, le-of-eq, lt-of-lt-of-le, mul-le-mul-
 use native.Mathlib.Omega.{arith}
 use borrow.Author.Tests.{le-ltb}
 use lib.Pow.{pow-pos}
-use Rattle.limb.proofs.Tests.{both-true}
+use Rattle.decide.proofs.Answered.{settled-enough}
 use Rattle.limb.specs.Carry.{bit}
 use Rattle.numbers.specs.Operand.{Operand}
 use Rattle.rounding.specs.Mode.{Mode, Way, way, near, under, over}
@@ -20,7 +20,7 @@ use Rattle.decide.specs.Decide.{readPart, decideAt}
 use Rattle.decide.specs.Answer.{decidedAnswer, sameAnswer, unlikeAnswer, unlikePairAnswer, seenAnswer, answerAt}
 use Rattle.decide.proofs.Lean.{Part}
 use Rattle.decide.proofs.Rows.{sub-mul}
-use Rattle.decide.proofs.Settled.{Alike, Span, Enough, enough-true, settled-if}
+use Rattle.decide.proofs.Settled.{Alike, Span, Enough, settled-if}
 use Rattle.decide.proofs.Decision.{decides-fixed, answer-read}
 use Rattle.columns.specs.Column.{readTo}
 use Rattle.settle.specs.Rows.{rowOf}
@@ -35,10 +35,6 @@ use Rattle.bridge.proofs.Decision.{View, view}
 use Rattle.bridge.proofs.Refine.{half-answer}
 
 -- ---- what a settled row answers
-
-settled-enough : (w : Way) (p n : ℕ) (ml : Bool) (i : ℕ) (mg : Bool) → settled w p n ml i mg ≡ true → Enough w p n
-unfolding settled
-settled-enough w p n ml i mg e = enough-true w p n (both-true (enough w p n) _ e .0)
 
 alike-rounded : (w : Way) (p s : ℕ) (g : Bool) (lo hi : ℕ) → Alike w p lo hi → rounded w p s g lo ≡ rounded w p s g hi
 unfolding rounded

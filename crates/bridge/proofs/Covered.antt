@@ -10,6 +10,7 @@ use lib.Dec.{ltb}
 use lib.Pow.{pow-pos}
 use lib.Ieee.{size}
 use lib.Ieee.Digits.{size-le}
+use Rattle.columns.proofs.Reading.{read-lt}
 use Rattle.limb.proofs.Tests.{both-true}
 use Rattle.limb.specs.Carry.{bit}
 use Rattle.numbers.specs.Limits.{mostPrecision, bias, leastExponent}
@@ -25,7 +26,6 @@ use Rattle.settle.specs.Rows.{rowOf}
 use Rattle.settle.specs.declared.rows.Row.{Row}
 use Rattle.settle.specs.declared.rows.Row.the-variants.{Exact, Plus, Minus, Hole}
 use Rattle.bridge.specs.Verdict.{pairOf, Ordered, readSum, settledBy, inner?}
-use Rattle.bridge.proofs.Read.{read-below}
 use Rattle.bridge.proofs.Rows.{rowSeen}
 use Rattle.bridge.proofs.Told.{sum-alone, sum-same, sum-unlike, none-read, row-near}
 use Rattle.bridge.proofs.Answers.{settled-digits}
@@ -121,10 +121,10 @@ module _ (o : Mode) (p : ℕ) (P : 0 < p) (x y : Operand) (k : ℕ) (d : Ordered
   D = readSum x y k
 
   X-lt : X < 2 ^ c
-  X-lt = read-below k 0 (x .limbs) (d .first .limb)
+  X-lt = read-lt 0 (x .limbs) (d .first .limb) k
 
   Y-lt : Y < 2 ^ c
-  Y-lt = read-below k gap (y .limbs) (d .second .limb)
+  Y-lt = read-lt gap (y .limbs) (d .second .limb) k
 
   sum-small : (row : Row) → rowOf (pairOf x y) k ≡ row → inner? row ≡ true → (D < 2 ^ c) ⊎ ((D < 2 ^ suc c) × Fresh row)
   sum-small row is inner = go (y .isZero) (pairOf x y .same) refl refl

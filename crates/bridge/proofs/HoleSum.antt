@@ -28,7 +28,7 @@ use Rattle.settle.specs.declared.rows.Pair.{Pair}
 use Rattle.bridge.specs.Verdict.{pairOf, Ordered, readSum, middle?, holeWay}
 use Rattle.bridge.proofs.Read.{size-mantissa, read-whole}
 use Rattle.bridge.proofs.Told.{pair-gap, pair-same, second-weight, sum-same, sum-unlike, none-read}
-use Rattle.bridge.proofs.HoleDigits.{more-below, less-below, upper-half, lower-half}
+use Rattle.bridge.proofs.HoleDigits.{more-below, less-below, upper-half, lower-half, borrowed}
 
 -- ---- the sum by amounts
 
@@ -201,13 +201,6 @@ rest-less n c h k = omega arith
 
 rest-half : (n c : ℕ) → c ≤ n * 2 → (c - n) * 2 ≤ c
 rest-half n c h = omega arith
-
-with-borrow : (a n c : ℕ) → 0 < n → a < c → n * c - a ≡ (n - 1) * c + (c - a)
-with-borrow a zero c h k = absurd (omega arith)
-with-borrow a (suc n) c h k = let e : suc n - 1 ≡ n = pred n in rw e (omega arith)
-  where
-    pred : (n : ℕ) → suc n - 1 ≡ n
-    pred n = omega arith
 
 pred-lt : (n c : ℕ) → n < c → n - 1 < c
 pred-lt n c h = omega arith
@@ -534,9 +527,9 @@ module _ (o : Mode) (p : ℕ) (P : 0 < p) (x y : Operand) (k : ℕ) (d : Ordered
           let moved = first-is ∙ ap (λ (j : ℕ). M * 2 ^ (j - r)) (side .1) in
           ap (λ (j : Way). rounded j p r a (amount r x - N)) (n .0)
           ∙ ap (λ (j : ℕ). rounded near p r a (j - N)) moved
-          ∙ ap (rounded near p r a) (with-borrow N M (2 ^ (v - r)) M-pos second-lt)
+          ∙ ap (rounded near p r a) (borrowed N M (2 ^ (v - r)) M-pos second-lt)
           ∙ lower-half p P r a (M - 1) (v - r) (2 ^ (v - r) - N) (just other (n .1 ∙ side .0)) (rest-pos N (2 ^ (v - r)) second-lt) (rest-less N (2 ^ (v - r)) (pow-pos (v - r)) N-pos) (odd-pred M (one .0)) (rest-half N (2 ^ (v - r)) second-half)
-          ∙ ap (rounded under p r a) (sym (with-borrow N M (2 ^ (v - r)) M-pos second-lt))
+          ∙ ap (rounded under p r a) (sym (borrowed N M (2 ^ (v - r)) M-pos second-lt))
           ∙ ap (λ (j : ℕ). rounded under p r a (j - N)) (sym moved)
           ∙ less-hole v at-top (le-refl v) (side .2) under D (sum-read-unlike f) (le-trans (le-of-eq (n .1 ∙ sym (top-size t m c (64 * b) v m-le v-le far room))) (pred-full other (l - v)))
           ∙ ap (λ (j : Way). rounded j p H a (2 * (D * 2 ^ (64 * b)) - 1)) (sym (way-on false f (n .0) (n .1)))

@@ -104,7 +104,7 @@ module _ (w : Way) (p s : ℕ) (P : 0 < p) (g : Bool) (j n : ℕ) (more : Bool) 
 
 -- ---- of the least sum, and so of every one, where the decision holds
 
-settled-enough : (w : Way) (p n : ℕ) (ml : Bool) (i : ℕ) (mg : Bool) → settled w p n ml i mg ≡ true → Enough w p n
+pub settled-enough : (w : Way) (p n : ℕ) (ml : Bool) (i : ℕ) (mg : Bool) → settled w p n ml i mg ≡ true → Enough w p n
 unfolding settled
 settled-enough w p n ml i mg e = enough-true w p n (both-true (enough w p n) _ e .0)
 

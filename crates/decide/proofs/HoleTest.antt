@@ -14,9 +14,9 @@ use Rattle.limb.proofs.Tests.{and-both}
 use Rattle.rounding.specs.Mode.{Mode, way, Way, near, under, over}
 use Rattle.numbers.specs.Limits.{leastExponent, mostExponent}
 use Rattle.rounding.proofs.Order.{le-or-lt, cmp, compare-at, size-mono, zero-or}
-use Rattle.limb.proofs.Sizes.{size-is}
+use Rattle.limb.proofs.Sizes.{size-is, size-part}
 use Rattle.rounding.proofs.Scale.{size-shift}
-use Rattle.decide.proofs.Settled.{size-part, alike-refl}
+use Rattle.decide.proofs.Settled.{alike-refl}
 use Rattle.decide.proofs.Lean.{lean-exact, lean-rest, lean-more}
 use Rattle.decide.specs.Class.{tie, off, lean, alike, enough, settled}
 use Rattle.decide.specs.Range.{bump, carry, shortLeast, large?, small?, decided}
@@ -446,6 +446,14 @@ size-below m f M = ap size (double (m * 2 ^ f)) ∙ size-shift (m * 2 ^ f - 1) 1
           where
             strict : 2 ^ z ≤ m → (m ≡ 2 ^ z → ⊥) → 2 ^ z < m
             strict h n = elim (le-or-lt m (2 ^ z)) [ inl k ↦ absurd (n (le-antisymm k h)) | inr k ↦ k ]
+
+-- two numbers are the same where nothing lies between them
+pub eqb-none : (n c : ℕ) → c ≤ n → eqb n c ≡ not (some? (n - c))
+eqb-none n c h = go (n - c) refl
+  where
+    go : (d : ℕ) → n - c ≡ d → eqb n c ≡ not (some? d)
+    go zero e = eq-eqb n c (omega arith)
+    go (suc d) e = ne-eqb n c (λ f. omega arith)
 
 -- z / 2 is odd only where the two stand next to each other
 odd-shift : (m f : ℕ) → odd? (m * 2 ^ f) ≡ (odd? m && not (some? f))

@@ -11,12 +11,13 @@ use lib.Pow.{pow-pos, pow-mono, pow-add}
 use lib.Ieee.{size}
 use lib.Ieee.Digits.{size-lt, size-le}
 use lib.Ieee.Fits.{kept-lt}
+use Rattle.limb.proofs.Sizes.{size-part}
 use Rattle.limb.proofs.Tests.{both-true}
 use Rattle.rounding.specs.Mode.{Way, near, under, over}
 use Rattle.rounding.specs.Select.{quotient, unit, chosen, onGrid}
 use Rattle.rounding.proofs.Selection.{Rep, full, chosen-mono}
 use Rattle.rounding.proofs.Order.{le-or-lt, Cmp, cmp, compare-at, size-mono, zero-or}
-use Rattle.rounding.proofs.Scale.{exact, size-shift}
+use Rattle.rounding.proofs.Scale.{exact}
 use Rattle.decide.specs.Class.{tie, off, lean, step, alike, enough, settled}
 use Rattle.decide.proofs.Lean.{Part, Halves, lean-exact, lean-rest, lean-scale, quot-lean, tern-lean}
 
@@ -30,18 +31,6 @@ pub record Alike (w : Way) (p lo hi : ℕ) : Type 0 where
 pub part-lt : (more : Bool) (C a : ℕ) → 0 < C → Part more C a → a < C
 part-lt true C a pos h = h .1
 part-lt false C a pos h = omega arith
-
-pub size-part : (m j a : ℕ) → 0 < m → a < 2 ^ j → size (m * 2 ^ j + a) ≡ size m + j
-size-part m j a M lt =
-    le-antisymm
-    (size-le (m * 2 ^ j + a) (size m + j) (below (le-trans (mul-le-mul-right (2 ^ j) (size-lt m)) (le-of-eq (sym (pow-add 2 (size m) j))))))
-    (le-trans (le-of-eq (sym (size-shift m j M))) (size-mono (m * 2 ^ j) (m * 2 ^ j + a) (more (m * 2 ^ j) a)))
-  where
-    below : {n : ℕ} → suc m * 2 ^ j ≤ n → m * 2 ^ j + a < n
-    below h = omega (arith, suc-mul m (2 ^ j))
-
-    more : (a b : ℕ) → a ≤ a + b
-    more a b = omega arith
 
 pub unit-part : (p m j a : ℕ) → 0 < m → a < 2 ^ j → p ≤ size m → unit p (m * 2 ^ j + a) ≡ 2 ^ (size m - p) * 2 ^ j
 unfolding unit

@@ -6,6 +6,7 @@ use Prim.Native.Nat.{ℕ, _+_, _-_, _^_, _≤_, _<_}
 use native.Mathlib.Numerals.{add-one}
 use native.Mathlib.Omega.{arith}
 use lib.ListN.{length}
+use Rattle.columns.proofs.Reading.{read-early}
 use Rattle.numbers.specs.Limits.{leastPrecision, limbsFor}
 use Rattle.numbers.specs.Operand.{Operand}
 use Rattle.rounding.specs.Mode.{Mode}
@@ -19,7 +20,6 @@ use Rattle.walk.proofs.Showing.{unfilled-unmixed}
 use Rattle.settle.specs.declared.rows.Pair.{Pair}
 use Rattle.settle.specs.declared.rows.Way.{Way}
 use Rattle.bridge.specs.Verdict.{pairOf, readSum}
-use Rattle.bridge.proofs.Read.{read-none}
 use Rattle.bridge.proofs.Theorems.{level-open}
 use Rattle.descent.specs.declared.going.Verdict.{Verdict}
 use Rattle.descent.specs.declared.going.Verdict.the-variants.{Open, Fixed, InHole, Refused}
@@ -134,12 +134,12 @@ module _ (o : Mode) (p : ℕ) (x y : Operand) (from : ℕ) (course : Course x y 
         where
           by : (b : Bool) → mathlib.Core.Bool.cond b 0 (readTo 0 (pairOf x y .gap) (y .limbs)) ≡ 0
           by true = refl
-          by false = read-none 0 (pairOf x y .gap) (y .limbs) (course .ordered .second .limb) (omega arith)
+          by false = read-early (pairOf x y .gap) (y .limbs) (course .ordered .second .limb) 0 (omega arith)
 
       go : (b : Bool) → pairOf x y .same ≡ b → readSum x y from ≡ 0
       go true e =
           ap (readSum x y) (course .sum e) ∙ sum-is x y 0 (course .ordered) 0 e
-          ∙ ap (λ (n : ℕ). n + secondRead x y 0) (read-none 0 0 (x .limbs) (course .ordered .first .limb) (omega arith)) ∙ ap (λ (n : ℕ). 0 + n) none
+          ∙ ap (λ (n : ℕ). n + secondRead x y 0) (read-early 0 (x .limbs) (course .ordered .first .limb) 0 (omega arith)) ∙ ap (λ (n : ℕ). 0 + n) none
       go false e = difference-is x y from (course .ordered) from e ∙ gone (readTo from 0 (x .limbs)) (readTo from (pairOf x y .gap) (y .limbs)) (course .level e)
 
   pub open-before : 1 ≤ from → decideAt o p x y from ≡ false

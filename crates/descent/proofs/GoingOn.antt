@@ -10,6 +10,7 @@ use native.Mathlib.Omega.{arith}
 use borrow.Author.Tests.{eq-eqb, ne-eqb}
 use lib.Dec.{eqb}
 use lib.Pow.{pow-pos, pow-mono}
+use Rattle.columns.proofs.Reading.{read-lt}
 use Rattle.numbers.specs.Limits.{mostPrecision}
 use Rattle.numbers.specs.Operand.{Operand}
 use Rattle.numbers.proofs.Digits.{precision-two}
@@ -30,7 +31,7 @@ use Rattle.columns.proofs.Reading as walk
 use Rattle.settle.specs.declared.rows.Pair.{Pair}
 use Rattle.settle.specs.declared.rows.Way.{Way}
 use Rattle.bridge.specs.Verdict.{pairOf, Ordered, Leads, readSum}
-use Rattle.bridge.proofs.Read.{read-below, read-lead}
+use Rattle.bridge.proofs.Read.{read-lead}
 use Rattle.bridge.proofs.Told.{pair-second, alone-second, alone-same}
 use Rattle.bridge.proofs.Theorems.{leads-same, leads-later}
 use Rattle.descent.specs.Course.{Held, Going, Reached}
@@ -73,7 +74,7 @@ module _ (x y : Operand) (k : ℕ) (d : Ordered x y) where
     where
       go : (z : Bool) → cond z 0 (readTo (suc k) (pairOf x y .gap) (y .limbs)) < 2 ^ (64 * suc k)
       go true = pow-pos (64 * suc k)
-      go false = read-below (suc k) (pairOf x y .gap) (y .limbs) (d .second .limb)
+      go false = read-lt (pairOf x y .gap) (y .limbs) (d .second .limb) (suc k)
 
   pub sum-is : (j : ℕ) → pairOf x y .same ≡ true → readSum x y j ≡ readTo j 0 (x .limbs) + secondRead x y j
   unfolding readSum secondRead
@@ -100,7 +101,7 @@ module _ (x y : Operand) (k : ℕ) (d : Ordered x y) where
       ∙ ap (λ (n : ℕ). n * 2 ^ 64 + a + b) (sym (sum-is k f))
 
   pub sum-below : pairOf x y .same ≡ true → readSum x y (suc k) < 2 * 2 ^ (64 * suc k)
-  sum-below f = omega (arith, sum-is (suc k) f, second-below, read-below (suc k) 0 (x .limbs) (d .first .limb))
+  sum-below f = omega (arith, sum-is (suc k) f, second-below, read-lt 0 (x .limbs) (d .first .limb) (suc k))
 
   sum-large : pairOf x y .same ≡ true → 1 < readSum x y (suc k)
   sum-large f =

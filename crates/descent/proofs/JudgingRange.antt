@@ -1,7 +1,7 @@
 -- How many digits D has, whether the first are all 1, and so whether both ends are refused alike. Assumes nothing.
 use mathlib.Core.Path.{_≡_, refl, sym, ap, _∙_, subst}
 use mathlib.Core.Logic.{inl, inr}
-use mathlib.Core.Bool.{Bool, true, false, not, cond}
+use mathlib.Core.Bool.{Bool, true, false, not, cond, and-false}
 use mathlib.Core.List.{List}
 use Prim.Native.Nat.{ℕ, suc, _+_, _-_, _*_, _/_, _^_, _≤_, _<_}
 use native.Mathlib.Nat.{div-one, pow-zero}
@@ -25,7 +25,6 @@ use Rattle.walk.proofs.Showing.{columns-open, columns-guarded, whole-shows}
 use Rattle.bounds.specs.Ends.{isFar, isNext, openDigits, Ones}
 use Rattle.settle.specs.declared.rows.Pair.{Pair}
 use Rattle.bounds.proofs.Ranges.{not-large, not-small}
-use Rattle.settle.proofs.Units.{and-false}
 use Rattle.bridge.specs.Verdict.{refusedBy}
 use Rattle.descent.specs.declared.going.Verdict.{Verdict}
 use Rattle.descent.specs.declared.going.Verdict.the-variants.{Open, Fixed, InHole, Refused}

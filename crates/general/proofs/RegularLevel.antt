@@ -31,8 +31,7 @@ use Rattle.settle.specs.Rows.{rowOf, seenRow, farRow}
 use Rattle.settle.specs.declared.rows.Row.{Row}
 use Rattle.settle.specs.declared.rows.Row.the-variants.{Exact, Plus, Minus, Hole}
 use Rattle.bridge.specs.Verdict.{pairOf, Ordered, exact?}
-use Rattle.columns.proofs.Reading.{read-fewer}
-use Rattle.bridge.proofs.Read.{read-none}
+use Rattle.columns.proofs.Reading.{read-fewer, read-early}
 use Rattle.bridge.proofs.Decision.{leads, equal-decision}
 use Rattle.bridge.proofs.Answers.{cancelled-sum}
 use Rattle.bridge.proofs.Covered.{columns-above}
@@ -59,7 +58,7 @@ read-next k l =
     sym (div-add-mod' (readTo (suc k) 0 l) (2 ^ 64)) ∙ ap (λ (n : ℕ). n * 2 ^ 64 + readTo (suc k) 0 l % 2 ^ 64) a
 
 pub level-start : (x y : List ℕ) → Below (2 ^ 64) x → Below (2 ^ 64) y → readTo 0 0 y ≡ readTo 0 0 x
-level-start x y a b = read-none 0 0 y b (omega arith) ∙ sym (read-none 0 0 x a (omega arith))
+level-start x y a b = read-early 0 y b 0 (omega arith) ∙ sym (read-early 0 x a 0 (omega arith))
 
 module _ (k : ℕ) (x y : List ℕ) (e : readTo k 0 y ≡ readTo k 0 x) (u v : ℕ) (f : u ≡ columnOf k 0 x) (g : v ≡ columnOf k 0 y) where
   pub next-less : v < u → readTo (suc k) 0 y < readTo (suc k) 0 x
@@ -96,7 +95,7 @@ course-larger x y g h r l =
     record {
       ordered = d;
       sum = λ f. refl;
-      level = λ f. read-none 0 (pairOf x y .gap) (y .limbs) (h .limb) zero-le ∙ sym (read-none 0 0 (x .limbs) (g .limb) zero-le);
+      level = λ f. read-early (pairOf x y .gap) (y .limbs) (h .limb) 0 zero-le ∙ sym (read-early 0 (x .limbs) (g .limb) 0 zero-le);
       larger = leads x y 1 d (omega arith) l;
       near = zero-le;
     }

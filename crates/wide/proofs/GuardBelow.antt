@@ -22,12 +22,11 @@ use Rattle.rounding.specs.Mode.{Mode, Way, way}
 use Rattle.rounding.specs.Answer.{rounded}
 use Rattle.depth.specs.Bound.{deepest}
 use Rattle.decide.specs.Decide.{decideAt}
-use Rattle.decide.proofs.Settled.{size-part}
 use Rattle.place.specs.Placed.{runNumber}
 use Rattle.kept.proofs.Reaching.{top-apart}
 use Rattle.columns.specs.Column.{readTo, columnOf}
 use Rattle.columns.proofs.Reading.{read-more, read-lt}
-use Rattle.limb.proofs.Sizes.{size-is}
+use Rattle.limb.proofs.Sizes.{size-is, size-part}
 use Rattle.leap.specs.Leap.{Within}
 use Rattle.leap.specs.Runs.{Runs}
 use Rattle.leap.specs.declared.guarded.Guarded.{Guarded}
