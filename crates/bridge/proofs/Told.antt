@@ -19,7 +19,7 @@ use Rattle.rounding.specs.Sum.{scale, amount, zeroSign}
 use Rattle.depth.specs.Columns.{topExponent}
 use Rattle.depth.specs.Read.{unread}
 use Rattle.depth.proofs.Columns.{digits-counted}
-use Rattle.depth.proofs.Place.{scale-first, scale-second}
+use Rattle.depth.proofs.Place.{scale-first, scale-second, top-ordered}
 use Rattle.depth.proofs.Reach.{end}
 use Rattle.decide.specs.Range.{large?, small?, orSmall}
 use Rattle.decide.specs.Table.{some?, allRead, sameSigns, unlikeSigns, unlikePair, seenPair, farPair, farSame, farUnlike, holeBySize, sameRow, unlikeRow}
@@ -191,12 +191,9 @@ module _ (o : Mode) (p : ℕ) (P : 0 < p) (x y : Operand) (k : ℕ) (d : Ordered
   unfolding topExponent
   top-is = go (y .isZero) refl
     where
-      largest : (m n : ℕ) → n ≤ m → max m n ≡ m
-      largest m n h = omega arith
-
       go : (z : Bool) → y .isZero ≡ z → cond (x .isZero) (y .exponent) (cond (y .isZero) (x .exponent) (max (x .exponent) (y .exponent))) ≡ t
       go true e = rw (d .regular, e)
-      go false e = rw (d .regular, e) (largest (x .exponent) (y .exponent) (d .order e))
+      go false e = top-ordered x y (d .regular) e (d .order e)
 
   pub flat : t - t < c
   flat = go t

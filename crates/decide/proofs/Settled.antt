@@ -137,6 +137,12 @@ enough-true near p n e = ltb-true p (size n) e
 enough-true under p n e = leb-true p (size n) e
 enough-true over p n e = leb-true p (size n) e
 
+pub enough-longer : (w : Way) (p n : ℕ) → p < size n → enough w p n ≡ true
+unfolding enough
+enough-longer near p n h = lt-ltb p (size n) h
+enough-longer under p n h = le-leb p (size n) (omega arith)
+enough-longer over p n h = le-leb p (size n) (omega arith)
+
 pub enough-or : (w : Way) (p n : ℕ) → (Enough w p n × (enough w p n ≡ true)) ⊎ (Enough w p n → ⊥)
 unfolding enough
 enough-or near p n = elim (le-or-lt (size n) p) [ inl h ↦ inr (λ k. omega arith) | inr h ↦ inl (h, lt-ltb p (size n) h) ]

@@ -6,6 +6,7 @@ use native.Mathlib.Nat.{le-trans, le-of-lt}
 use native.Mathlib.Omega.{arith}
 use borrow.Author.Tests.{leb-true, leb-false}
 use lib.Dec.{leb}
+use Rattle.depth.proofs.Place.{top-ordered}
 use Rattle.depth.proofs.Exchange.{fixed-exchange, first-some}
 use Rattle.numbers.specs.Limits.{mostPrecision}
 use Rattle.numbers.specs.Operand.{Operand, WellFormed}
@@ -105,11 +106,7 @@ module _ (o : Mode) (p : ℕ) (P : 0 < p) (x y : Operand) (g : WellFormed x) (h 
   d = x .exponent - y .exponent
 
   top : topExponent x y ≡ x .exponent
-  unfolding topExponent
-  top = rw (r, q) (go (x .exponent) (y .exponent) larger)
-    where
-      go : (a b : ℕ) → b ≤ a → max a b ≡ a
-      go a b h = omega arith
+  top = top-ordered x y r q larger
 
   far : 64 * farColumns p m ≤ d → Fixed plus o p x y (farColumns p m)
   far u = far-fixed o p P x y g h r q (farColumns p m) (far-some p m) (gap (farColumns p m) (x .exponent) (y .exponent) larger u) (far-first p m) (far-target p m)

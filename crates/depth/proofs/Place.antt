@@ -39,6 +39,13 @@ scale-first x y r = go (y .isZero) refl
 pub scale-second : (x y : Operand) → y .isZero ≡ false → scale x y ≤ lastWeight y
 scale-second x y q = le-trans (le-of-eq (scale-commutes x y (inr q))) (scale-first y x q)
 
+pub top-ordered : (x y : Operand) → x .isZero ≡ false → y .isZero ≡ false → y .exponent ≤ x .exponent → topExponent x y ≡ x .exponent
+unfolding topExponent
+top-ordered x y r q h = rw (r, q) (go (x .exponent) (y .exponent) h)
+  where
+    go : (a b : ℕ) → b ≤ a → max a b ≡ a
+    go a b h = omega arith
+
 -- where nothing of y is read, x is regular and stands at the top
 pub other-top : (x y : Operand) (k : ℕ) → 1 ≤ k → y .isZero ≡ false → 64 * k ≤ topExponent x y - y .exponent → (x .isZero ≡ false) × (topExponent x y ≡ x .exponent)
 unfolding topExponent

@@ -65,7 +65,7 @@ inner-cond : (b : Bool) (r s : Row) → inner? r ≡ true → inner? s ≡ true 
 inner-cond true r s h i = h
 inner-cond false r s h i = i
 
-seen-row : (s : Pair) (c : ℕ) → inner? (seenRow s c) ≡ true
+pub seen-row : (s : Pair) (c : ℕ) → inner? (seenRow s c) ≡ true
 seen-row s c = seen-inner (s .same) (ltb c (s .first) && ltb c (s .gap + s .second)) (ltb c (s .gap + s .second)) (ltb c (s .first)) (not (eqb (s .first) (c + 1) && eqb (s .gap + s .second) (c + 1)))
 
 inner-first : (s : Pair) (k : ℕ) → 64 * k < s .first → inner? (rowOf s k) ≡ true

@@ -3,14 +3,16 @@ use mathlib.Core.Path.{_≡_, refl, sym, ap, _∙_, subst}
 use mathlib.Core.Bool.{Bool, true, false, _||_, true≢false}
 use mathlib.Core.List.{[], _∷_}
 use Prim.Native.Nat.{ℕ, suc, _+_, _-_, _*_, _/_, _%_, _^_, _≤_, _<_}
-use native.Mathlib.Nat.{add-mul-mod-self-left, div-eq-of-lt, lt-of-lt-of-le}
+use native.Mathlib.Nat.{div-eq-of-lt, lt-of-lt-of-le}
 use native.Mathlib.Omega.{arith}
 use borrow.Author.Tests.{leb-true}
 use mir.Val.{boolByte}
 use lib.Dec.{leb}
 use lib.Count.{leadingZeros, leading-top}
 use lib.Ieee.{size}
-use lib.Pow.{pow-add, pow-mono}
+use lib.Pow.{pow-mono}
+use Rattle.descent.proofs.Inside.{inside-by}
+use Rattle.remnant.proofs.Resting.{word-low}
 use Rattle.limb.proofs.Tests.{both-true}
 use Rattle.limb.specs.Value.{valueIn}
 use Rattle.limb.specs.Carry.{bit}
@@ -87,27 +89,11 @@ plain p pair D fixed carry limb more e pos h = record { led = led carry e; answe
 -- ---- the digits of a column
 
 low-digits : (sum c D e : ℕ) → e ≤ 64 → sum + 2 ^ 64 * c ≡ D → D % 2 ^ e ≡ sum % 2 ^ e
-low-digits sum c D e h is = ap (λ (n : ℕ). n % 2 ^ e) (sym is ∙ apart-is) ∙ add-mul-mod-self-left sum (2 ^ e) (2 ^ (64 - e) * c)
-  where
-    base : 2 ^ 64 ≡ 2 ^ e * 2 ^ (64 - e)
-    base = ap (λ (m : ℕ). 2 ^ m) (let z : 64 ≡ e + (64 - e) = omega arith in z) ∙ pow-add 2 e (64 - e)
-
-    spread : (B E F : ℕ) → B ≡ E * F → sum + B * c ≡ sum + E * (F * c)
-    spread B E F e = rw e (omega arith)
-
-    apart-is : sum + 2 ^ 64 * c ≡ sum + 2 ^ e * (2 ^ (64 - e) * c)
-    apart-is = spread (2 ^ 64) (2 ^ e) (2 ^ (64 - e)) base
+low-digits sum c D e h is = ap (λ (n : ℕ). n % 2 ^ e) (let z : D ≡ c * 2 ^ 64 + sum = omega arith in z) ∙ word-low c sum e h
 
 -- what the test on the last digits says of D, which has n digits
 inside-of : (p n sum c D : ℕ) → sum + 2 ^ 64 * c ≡ D → size D ≡ n → p < n → n - p ≤ 64 → (1 ≤ sum % 2 ^ (n - p - 1)) × (sum % 2 ^ (n - p - 1) + 1 < 2 ^ (n - p - 1)) → Inside p D
-inside-of p n sum c D is size-D long few t = record {
-  longer = rw size-D long;
-  some = rw (size-D, low) (t .0);
-  below = rw (size-D, low) (t .1);
-}
-  where
-    low : D % 2 ^ (n - p - 1) ≡ sum % 2 ^ (n - p - 1)
-    low = low-digits sum c D (n - p - 1) (omega arith) is
+inside-of p n sum c D is size-D long few t = inside-by p n D sum size-D long (low-digits sum c D (n - p - 1) (omega arith) is) t
 
 pub digits-are : (limb : ℕ) → 0 < limb → limb < 2 ^ 64 → size limb ≡ 64 - leadingZeros 64 limb
 digits-are limb h l = let t = leading-top 64 limb h l in size-is limb (t .0) (t .2) (t .3) ∙ (let z : suc (t .0) ≡ 64 - leadingZeros 64 limb = omega (arith, t .1) in z)
