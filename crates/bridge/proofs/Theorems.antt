@@ -10,10 +10,8 @@ use Rattle.rounding.specs.Mode.{Mode, way}
 use Rattle.rounding.specs.Answer.{rounded}
 use Rattle.rounding.specs.Sum.{add}
 use Rattle.rounding.proofs.Order.{le-or-lt}
-use Rattle.depth.specs.Depth.{plus, Deciding}
 use Rattle.decide.specs.Table.{holeBySize}
 use Rattle.decide.specs.Decide.{decideAt}
-use Rattle.decide.proofs.Decision.{depth-decided}
 use Rattle.columns.specs.Column.{readTo}
 use Rattle.settle.specs.Rows.{rowOf}
 use Rattle.settle.specs.declared.rows.Row.{Row}
@@ -58,11 +56,6 @@ far-hole true (suc u) f e = absurd (true≢false (sym e))
 far-hole false (suc u) f e = absurd (true≢false (sym e))
 
 module _ (o : Mode) (p : ℕ) (P : 0 < p) (x y : Operand) (k : ℕ) (d : Ordered x y) (K : 1 ≤ k) where
-  -- ---- the depth
-
-  pub deciding : Leads x y k → verdict o p x y k (rowOf (pairOf x y) k) ≡ true → (1 < k → decideAt o p x y (k - 1) ≡ false) → Deciding plus o p x y k
-  deciding lead e f = depth-decided o p P x y (d .first) (d .second) k K (decision o p P x y k d K lead ∙ e) f
-
   -- ---- the answer of a settled row, all read or not
 
   pub row-sum : Leads x y k → (row : Row) → rowOf (pairOf x y) k ≡ row → 64 * k + 1 ≤ x .exponent → settledBy (way o (x .negative)) p (readSum x y k) row ≡ true
