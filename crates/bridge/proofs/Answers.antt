@@ -30,7 +30,7 @@ use Rattle.settle.specs.declared.rows.Row.the-variants.{Exact, Plus, Minus, Hol
 use Rattle.bridge.specs.Verdict.{pairOf, Ordered, Leads, readSum, settledBy, refusedBy, moreOf, testBy, exact?, inner?}
 use Rattle.bridge.proofs.Read.{read-scaled, read-some}
 use Rattle.bridge.proofs.Rows.{answerBy, rowSeen}
-use Rattle.bridge.proofs.Told.{Told, pair-gap, pair-same, alone-same, none, flat, first-weight, second-weight, seen-answer, seen, same-pair, unlike-pair, left-second, alone-left, alone-read, alone-seen, all-decided, all-decided-one, sum-alone, sum-same, sum-unlike, row-near, none-read}
+use Rattle.bridge.proofs.Told.{Told, pair-gap, pair-same, none, flat, first-weight, second-weight, seen-answer, seen, same-pair, unlike-pair, left-second, alone-left, alone-read, alone-seen, all-decided, all-decided-one, sum-alone, sum-same, sum-unlike, row-near, none-read, unlike-regular}
 use Rattle.bridge.proofs.Decision.{View, view}
 use Rattle.bridge.proofs.Refine.{half-answer}
 
@@ -300,14 +300,13 @@ module _ (o : Mode) (p : ℕ) (P : 0 < p) (x y : Operand) (k : ℕ) (d : Ordered
         go (inr z) = both-exact (z .0) (z .1) (z .2) (z .3) lead
 
     pub cancelled-sum : q .same ≡ false → readTo k (q .gap) (y .limbs) ≡ X → rowOf q k ≡ Exact → add o p x y ≡ zeroOf (zeroSign o a b)
-    cancelled-sum f h is = go (y .isZero) refl
+    cancelled-sum f h is = go (unlike-regular x y f)
       where
         clash : {m n : ℕ} → m ≡ 0 → m ≡ n → 0 < n → ⊥
         clash h i l = omega arith
 
-        go : (z : Bool) → y .isZero ≡ z → add o p x y ≡ zeroOf (zeroSign o a b)
-        go true e = absurd (true≢false (sym (alone-same x y e) ∙ f))
-        go false e =
+        go : y .isZero ≡ false → add o p x y ≡ zeroOf (zeroSign o a b)
+        go e =
             let same : readTo k (t - y .exponent) (y .limbs) ≡ X = rw (pair-gap x y e) at h in
             elim (le-or-lt c (t - y .exponent)) [
               | inl far ↦ absurd (clash (none-read o p P x y k d K e far) same (read-some x (d .first) (d .regular) k K))

@@ -79,6 +79,14 @@ pub alone-same : (x y : Operand) → y .isZero ≡ true → pairOf x y .same ≡
 unfolding pairOf
 alone-same x y e = rw e
 
+-- so the second of unlike signs is regular
+pub unlike-regular : (x y : Operand) → pairOf x y .same ≡ false → y .isZero ≡ false
+unlike-regular x y f = go (y .isZero) refl
+  where
+    go : (z : Bool) → y .isZero ≡ z → y .isZero ≡ false
+    go true e = absurd (true≢false (sym (alone-same x y e) ∙ f))
+    go false e = e
+
 -- ---- the tests of the range on the pair
 
 module _ (s : Pair) (k : ℕ) where
