@@ -6,6 +6,7 @@ use native.Mathlib.Omega.{arith}
 use borrow.Author.Tests.{ltb-true, ltb-false, eqb-true, eqb-false, lt-ltb, le-ltb, le-leb, lt-leb, eq-eqb, ne-eqb}
 use lib.Dec.{ltb, leb, eqb}
 use lib.Ieee.{size}
+use Rattle.decide.proofs.HoleTest.{eqb-none}
 use Rattle.bounds.proofs.Ranges.{carry-le, short-le}
 use Rattle.limb.specs.Carry.{bit}
 use Rattle.rounding.specs.Mode.{Way}

@@ -13,7 +13,7 @@ use lib.Ieee.{size}
 use lib.Pow.{pow-mono}
 use Rattle.descent.proofs.Inside.{inside-by}
 use Rattle.remnant.proofs.Resting.{word-low}
-use Rattle.limb.proofs.Tests.{both-true}
+use Rattle.limb.proofs.Tests.{both-true, second-true}
 use Rattle.limb.specs.Value.{valueIn}
 use Rattle.limb.specs.Carry.{bit}
 use Rattle.limb.proofs.Carry.{bit-byte}
