@@ -13,13 +13,12 @@ use Rattle.numbers.specs.Operand.{Operand}
 use Rattle.rounding.specs.Mode.{Mode, Way, way, near, under, over}
 use Rattle.rounding.specs.Answer.{zeroOf, tooLarge, tooSmall, rounded}
 use Rattle.rounding.specs.Sum.{scale, zeroSign, add}
-use Rattle.rounding.proofs.Order.{le-or-lt, mul-one-one, size-mono}
+use Rattle.rounding.proofs.Order.{le-or-lt, mul-one-one, size-mono, sub-mul}
 use Rattle.rounding.proofs.Scale.{rounded-shift}
 use Rattle.decide.specs.Class.{enough, settled}
 use Rattle.decide.specs.Decide.{readPart, decideAt}
 use Rattle.decide.specs.Answer.{decidedAnswer, sameAnswer, unlikeAnswer, unlikePairAnswer, seenAnswer, answerAt}
 use Rattle.decide.proofs.Lean.{Part}
-use Rattle.decide.proofs.Rows.{sub-mul}
 use Rattle.decide.proofs.Settled.{Alike, Span, Enough, settled-if}
 use Rattle.decide.proofs.Decision.{decides-fixed, answer-read}
 use Rattle.columns.specs.Column.{readTo}

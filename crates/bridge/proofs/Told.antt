@@ -8,6 +8,7 @@ use native.Mathlib.Omega.{arith}
 use borrow.Author.Tests.{lt-ltb, le-ltb, le-leb, lt-leb, ne-eqb}
 use lib.Dec.{ltb, eqb}
 use lib.Ieee.{size}
+use Rattle.rounding.proofs.Units.{scale-first, scale-second}
 use Rattle.decide.proofs.HoleTest.{eqb-none}
 use Rattle.columns.proofs.Reading.{read-early}
 use Rattle.rounding.proofs.Order.{zero-or}
@@ -19,7 +20,7 @@ use Rattle.rounding.specs.Sum.{scale, amount, zeroSign}
 use Rattle.depth.specs.Columns.{topExponent}
 use Rattle.depth.specs.Read.{unread}
 use Rattle.depth.proofs.Columns.{digits-counted}
-use Rattle.depth.proofs.Place.{scale-first, scale-second, top-ordered}
+use Rattle.depth.proofs.Place.{top-ordered}
 use Rattle.depth.proofs.Reach.{end}
 use Rattle.decide.specs.Range.{large?, small?, orSmall}
 use Rattle.decide.specs.Table.{some?, allRead, sameSigns, unlikeSigns, unlikePair, seenPair, farPair, farSame, farUnlike, holeBySize, sameRow, unlikeRow}

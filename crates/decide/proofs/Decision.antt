@@ -7,6 +7,7 @@ use native.Mathlib.Nat.{add-comm, zero-mul}
 use native.Mathlib.Omega.{arith}
 use borrow.Author.Tests.{ltb-true, ltb-false, lt-ltb, le-ltb}
 use lib.Dec.{ltb}
+use Rattle.rounding.proofs.Units.{scale-first, scale-second}
 use Rattle.depth.proofs.Exchange.{top-exchange, first-some}
 use Rattle.numbers.specs.Operand.{Operand, mantissa, lastWeight, WellFormed}
 use Rattle.rounding.specs.Mode.{Mode}
@@ -16,7 +17,7 @@ use Rattle.depth.specs.Columns.{topExponent, Like}
 use Rattle.depth.specs.Read.{unread}
 use Rattle.depth.specs.Depth.{plus, result, Fixed, Open, Deciding}
 use Rattle.depth.proofs.Columns.{read-of}
-use Rattle.depth.proofs.Place.{top-first, top-second, scale-first, scale-second, other-top}
+use Rattle.depth.proofs.Place.{top-first, top-second, other-top}
 use Rattle.depth.proofs.Reach.{end}
 use Rattle.depth.proofs.Amounts.{low-like}
 use Rattle.depth.proofs.EndsDecide.{lx, ly, up, down, like-first, like-second, at, add-is, Alike, own-first, own-second, other-first, other-second, fixed-if, fixed-or}

@@ -3,7 +3,7 @@ use mathlib.Core.Path.{_≡_, refl, sym, ap, _∙_}
 use mathlib.Core.Logic.{inl, inr}
 use mathlib.Core.Bool.{true, false, _||_}
 use Prim.Native.Nat.{ℕ, zero, suc, _+_, _-_, _*_, _^_, _≤_, _<_}
-use native.Mathlib.Nat.{mul-comm, mul-sub, le-trans, le-of-eq, pow-succ'}
+use native.Mathlib.Nat.{le-trans, le-of-eq, pow-succ'}
 use native.Mathlib.Omega.{arith}
 use borrow.Author.Tests.{ne-eqb}
 use lib.Dec.{eqb}
@@ -22,9 +22,6 @@ pub record Seen (j x u least most : ℕ) : Type 0 where
   pub cut : l + u ≡ j
   pub low : least ≡ x * 2 ^ j
   pub high : most + 2 ^ l ≡ x * 2 ^ j + 2 ^ j
-
-pub sub-mul : (a b c : ℕ) → (a - b) * c ≡ a * c - b * c
-sub-mul a b c = let e = mul-comm c a in let f = mul-comm c b in mul-comm (a - b) c ∙ mul-sub c a b ∙ cc
 
 pub seen-le : (j x u xl xh : ℕ) → Seen j x u xl xh → xl ≤ xh
 seen-le j x u xl xh a = omega (arith, a .low, a .high, pow-mono (go (a .l) (a .cut)))

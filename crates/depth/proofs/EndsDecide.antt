@@ -7,6 +7,7 @@ use native.Mathlib.Decide.{ℕ-discrete}
 use Prim.Native.Nat.{ℕ, _+_, _-_, _≤_, _<_, max, compare, Ordering, Ordering·lt, Ordering·eq, Ordering·gt}
 use native.Mathlib.Nat.{lt-of-lt-of-le, not-suc-le-zero, le-of-eq, add-le-add}
 use native.Mathlib.Omega.{arith}
+use Rattle.rounding.proofs.Units.{scale-first, scale-second}
 use Rattle.rounding.proofs.Zeros.{amount-zero, share-as, share-other}
 use Rattle.numbers.specs.Operand.{Operand, lastWeight, WellFormed}
 use Rattle.rounding.specs.Mode.{Mode, way}
@@ -16,7 +17,7 @@ use Rattle.rounding.proofs.Order.{le-or-lt, Cmp, cmp}
 use Rattle.rounding.proofs.Ends.{all-between, plus as positive, minus as negative, nought, regular}
 use Rattle.depth.specs.Columns.{topExponent, Like}
 use Rattle.depth.specs.Depth.{plus, result, Fixed, Open}
-use Rattle.depth.proofs.Place.{top-first, top-second, scale-first, scale-second}
+use Rattle.depth.proofs.Place.{top-first, top-second}
 use Rattle.depth.proofs.Reach.{end}
 use Rattle.depth.proofs.Amounts.{like-self, like-end, amount-end, shares}
 use Rattle.depth.proofs.Meet.{meet}

@@ -1,14 +1,11 @@
--- Where the operands of a pair stand: no regular one lies above E, and none reaches below the scale.
+-- Where the operands of a pair stand: no regular one lies above E.
 use mathlib.Core.Path.{_≡_, refl}
 use mathlib.Core.Bool.{Bool, true, false, cond}
-use Prim.Native.Nat.{ℕ, _-_, _*_, _≤_, min, max}
+use Prim.Native.Nat.{ℕ, _-_, _*_, _≤_, max}
 use native.Mathlib.Nat.{le-refl, le-trans, le-of-eq}
 use native.Mathlib.Omega.{arith}
-use mathlib.Core.Logic.{inr}
 use Rattle.depth.proofs.Exchange.{first-some, top-exchange}
-use Rattle.rounding.proofs.Zeros.{scale-commutes}
-use Rattle.numbers.specs.Operand.{Operand, lastWeight}
-use Rattle.rounding.specs.Sum.{scale}
+use Rattle.numbers.specs.Operand.{Operand}
 use Rattle.depth.specs.Columns.{topExponent}
 
 pub top-first : (x y : Operand) → x .isZero ≡ false → x .exponent ≤ topExponent x y
@@ -24,20 +21,6 @@ top-first x y r = go (y .isZero) refl
 
 pub top-second : (x y : Operand) → y .isZero ≡ false → y .exponent ≤ topExponent x y
 top-second x y q = le-trans (top-first y x q) (le-of-eq (top-exchange y x (first-some y x q)))
-
-pub scale-first : (x y : Operand) → x .isZero ≡ false → scale x y ≤ lastWeight x
-unfolding scale lastWeight
-scale-first x y r = go (y .isZero) refl
-  where
-    left : (a b : ℕ) → min a b ≤ a
-    left a b = omega arith
-
-    go : (b : Bool) → y .isZero ≡ b → cond (x .isZero) (lastWeight y) (cond (y .isZero) (lastWeight x) (min (lastWeight x) (lastWeight y))) ≤ lastWeight x
-    go true q = rw (r, q) (le-refl (lastWeight x))
-    go false q = rw (r, q) (left (lastWeight x) (lastWeight y))
-
-pub scale-second : (x y : Operand) → y .isZero ≡ false → scale x y ≤ lastWeight y
-scale-second x y q = le-trans (le-of-eq (scale-commutes x y (inr q))) (scale-first y x q)
 
 pub top-ordered : (x y : Operand) → x .isZero ≡ false → y .isZero ≡ false → y .exponent ≤ x .exponent → topExponent x y ≡ x .exponent
 unfolding topExponent

@@ -2,11 +2,12 @@
 use mathlib.Core.Path.{_≡_, refl, sym, ap, _∙_, subst}
 use mathlib.Core.Logic.{inl, inr}
 use mathlib.Core.Bool.{Bool, true, false, cond, _&&_, Bool·beq, true≢false}
-use Prim.Native.Nat.{ℕ, _+_, _-_, _*_, _/_, _^_, _≤_, _<_, min, compare, Ordering, Ordering·lt, Ordering·eq, Ordering·gt}
-use native.Mathlib.Nat.{le-trans, le-of-eq, le-refl, lt-of-lt-of-le, mul-assoc, mul-le-mul-right, mul-lt-mul-of-pos-right, div-add-mod', add-zero, zero-add}
+use Prim.Native.Nat.{ℕ, _+_, _-_, _*_, _/_, _^_, _≤_, _<_, compare, Ordering, Ordering·lt, Ordering·eq, Ordering·gt}
+use native.Mathlib.Nat.{le-trans, le-of-eq, lt-of-lt-of-le, mul-assoc, mul-le-mul-right, mul-lt-mul-of-pos-right, div-add-mod', add-zero, zero-add}
 use native.Mathlib.Omega.{arith}
 use lib.ListN.{length}
 use lib.Pow.{pow-pos, pow-add, pow-mono}
+use Rattle.rounding.proofs.Units.{scale-first, scale-second}
 use Rattle.rounding.proofs.Zeros.{amount-zero, amount-is}
 use Rattle.limb.specs.Value.{valueOf}
 use Rattle.limb.proofs.Value.{base-pow}
@@ -149,24 +150,6 @@ module _ (s : ℕ) (x y : Operand) (g : WellFormed x) (k : WellFormed y) (ux : U
       go false b z w h = omega (arith, some-amount s x g ux z)
 
 -- ---- with their signs
-
-pub scale-first : (x y : Operand) → Under (scale x y) x
-unfolding scale
-scale-first x y r = go (x .isZero) (y .isZero) (lastWeight x) (lastWeight y) r
-  where
-    go : (a b : Bool) (m n : ℕ) → a ≡ false → cond a n (cond b m (min m n)) ≤ m
-    go true b m n r = absurd (true≢false r)
-    go false true m n r = le-refl m
-    go false false m n r = omega arith
-
-pub scale-second : (x y : Operand) → Under (scale x y) y
-unfolding scale
-scale-second x y r = go (x .isZero) (y .isZero) (lastWeight x) (lastWeight y) r
-  where
-    go : (a b : Bool) (m n : ℕ) → b ≡ false → cond a n (cond b m (min m n)) ≤ n
-    go true b m n r = le-refl n
-    go false true m n r = absurd (true≢false r)
-    go false false m n r = omega arith
 
 module _ (x y : Operand) (g : WellFormed x) (k : WellFormed y) where
   two-positive : x .negative ≡ false → y .negative ≡ false → orderOf x y ≡ sizeOrder x y
