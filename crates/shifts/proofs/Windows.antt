@@ -42,7 +42,6 @@ window-bits t u l h r hl =
     let pieces : (x + h * q) % b ≡ y * q + x = sym (add-mod-mod x (h * q) b) ∙ ap (λ (m : ℕ). (x + m) % b) (kept h t u) ∙ ap (λ (m : ℕ). m % b) (add-comm x (y * q)) ∙ mod-eq-of-lt small in
     ap (λ (m : ℕ). m % b) moved ∙ dropped ∙ pieces ∙ sym (ap (λ (m : ℕ). bitOr x m) (kept h t u) ∙ or-shifted-r y u x hx)
 
--- moved up by m and n bits at once
 -- a limb moved up by 1 bit and then by 63 - t bits
 kept-times : (B x p : ℕ) → x % B * p % B ≡ x * p % B
 kept-times B x p = sym (ap (λ (m : ℕ). m % B) (omega (arith, ap (λ (m : ℕ). m * p) (mod-add-div x B))) ∙ add-mul-mod-self-left (x % B * p) B (x / B * p))
