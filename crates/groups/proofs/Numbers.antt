@@ -87,7 +87,7 @@ module _ (place : ℕ) (line : List ℕ) where
             let u : targetAfter line part ≡ limbsRead (length part) line = simp w in
             record {
               refusal = ap (λ (y : Head). y .refusal) g ∙ sym (placed-is ∙ simp q);
-              number = λ i. ap (λ (y : Head). y .number) g ∙ (number-is line h e z);
+              number = λ i. ap (λ (y : Head). y .number) g ∙ number-is line h e z;
               few = λ i. head-few;
               limbs = λ i. ap (take (limbsFor (numberIn line .precision))) x ∙ take-at last _ (limbsFor (numberIn line .precision)) (sym l) ∙ t ∙ u ∙ ap (λ (y : ℕ). limbsRead y line) (count ∙ n-is);
             }

@@ -255,7 +255,7 @@ module _ (most : ℕ) (start : State) (bytes entry : List ℕ) (s : State) (out 
       next-onto =
           let e : length (take told out) ≡ told = length-take-le told out (v .fits) in
           let f : length (take told out ++ take r last) ≡ told + r = simp length-append (omega (arith, e, answer-size)) in
-          rw next-told ((put-is out last told (v .fits)) ∙ ap (λ (l : List ℕ). take told out ++ l) last-is ∙ sym (append-assoc (take told out) (take r last) (drop (told + r) entry)) ∙ ap (λ (i : ℕ). (take told out ++ take r last) ++ drop i entry) (sym f))
+          rw next-told (put-is out last told (v .fits) ∙ ap (λ (l : List ℕ). take told out ++ l) last-is ∙ sym (append-assoc (take told out) (take r last) (drop (told + r) entry)) ∙ ap (λ (i : ℕ). (take told out ++ take r last) ++ drop i entry) (sym f))
 
       next-size : length (putMid told (length out - told) out last) ≡ length entry
       next-size = ap length (put-is out last told (v .fits)) ∙ simp length-append (omega (arith, length-take-le told out (v .fits), size, part-size, v .same, v .fits))
