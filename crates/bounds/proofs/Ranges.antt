@@ -1,7 +1,7 @@
 -- The range tests: a carry makes the selected number one digit longer, and outside the near ranges no test holds.
 use mathlib.Core.Path.{_≡_, refl, sym, ap, _∙_}
 use mathlib.Core.Logic.{inl, inr}
-use mathlib.Core.Bool.{Bool, true, false, cond, _&&_}
+use mathlib.Core.Bool.{Bool, true, false, cond, _&&_, and-comm}
 use Prim.Native.Nat.{ℕ, zero, suc, _+_, _-_, _*_, _/_, _%_, _^_, _≤_, _<_, Ordering, Ordering·lt, Ordering·eq, Ordering·gt}
 use native.Mathlib.Nat.{le-of-eq, lt-of-lt-of-le, div-one, pow-succ'}
 use native.Mathlib.Omega.{arith}
@@ -17,7 +17,6 @@ use Rattle.rounding.proofs.Order.{le-or-lt}
 use Rattle.decide.specs.Class.{lean, enough}
 use Rattle.decide.specs.Range.{bump, carry, shortLeast, shortMost, large?, small?}
 use Rattle.bounds.specs.Ends.{Ones}
-use Rattle.settle.proofs.Units.{and-swap}
 
 pub bit-cond : (b : Bool) → bit b ≡ cond b 1 0
 unfolding bit
@@ -85,7 +84,7 @@ module _ (p D : ℕ) (ones : Bool) (is : Ones p D ones) where
   most-ones : (digits tail : ℕ) → digits ≡ size D → size D ≤ p → bit (ltb p (digits + tail) && ones) ≡ cond (eqb (suc D) (2 ^ size D) && ltb p (size D + tail)) 1 0
   most-ones digits tail d few =
       bit-cond (ltb p (digits + tail) && ones)
-      ∙ ap (λ (b : Bool). cond b 1 0) (and-swap (ltb p (digits + tail)) ones ∙ ap (λ (b : Bool). b && ltb p (digits + tail)) (all-ones few) ∙ ap (λ (v : ℕ). eqb (suc D) (2 ^ size D) && ltb p (v + tail)) d)
+      ∙ ap (λ (b : Bool). cond b 1 0) (and-comm (ltb p (digits + tail)) ones ∙ ap (λ (b : Bool). b && ltb p (digits + tail)) (all-ones few) ∙ ap (λ (v : ℕ). eqb (suc D) (2 ^ size D) && ltb p (v + tail)) d)
 
   pub most-near : (digits tail : ℕ) → digits ≡ size D → enough near p D ≡ false → bit (ltb p (digits + tail) && ones) ≡ shortMost near p D tail
   unfolding enough shortMost
@@ -142,11 +141,11 @@ bump-le Ordering·lt p q = omega arith
 bump-le Ordering·eq p q = omega arith
 bump-le Ordering·gt p q = one-at-most (eqb (suc q) (2 ^ p))
 
-carry-le : (w : Way) (p D : ℕ) (more : Bool) → carry w p D more ≤ 1
+pub carry-le : (w : Way) (p D : ℕ) (more : Bool) → carry w p D more ≤ 1
 unfolding carry
 carry-le w p D more = bump-le _ p _
 
-short-le : (w : Way) (p D : ℕ) (half : Bool) → shortLeast w p D half ≤ 1
+pub short-le : (w : Way) (p D : ℕ) (half : Bool) → shortLeast w p D half ≤ 1
 unfolding shortLeast
 short-le near p D half = one-at-most (half && eqb (suc D) (2 ^ p))
 short-le under p D half = omega arith

@@ -7,19 +7,19 @@ use native.Mathlib.Nat.{le-refl, le-trans, le-of-eq, lt-of-lt-of-le, mul-le-mul-
 use native.Mathlib.Omega.{arith}
 use borrow.Author.Tests.{le-ltb}
 use lib.Pow.{pow-pos}
+use Rattle.decide.proofs.Answered.{settled-enough}
 use Rattle.limb.specs.Carry.{bit}
 use Rattle.numbers.specs.Operand.{Operand}
 use Rattle.rounding.specs.Mode.{Mode, Way, way, near, under, over}
 use Rattle.rounding.specs.Answer.{zeroOf, tooLarge, tooSmall, rounded}
 use Rattle.rounding.specs.Sum.{scale, zeroSign, add}
-use Rattle.rounding.proofs.Order.{le-or-lt, mul-one-one, size-mono}
+use Rattle.rounding.proofs.Order.{le-or-lt, mul-one-one, size-mono, sub-mul}
 use Rattle.rounding.proofs.Scale.{rounded-shift}
 use Rattle.decide.specs.Class.{enough, settled}
 use Rattle.decide.specs.Decide.{readPart, decideAt}
 use Rattle.decide.specs.Answer.{decidedAnswer, sameAnswer, unlikeAnswer, unlikePairAnswer, seenAnswer, answerAt}
 use Rattle.decide.proofs.Lean.{Part}
-use Rattle.decide.proofs.Rows.{sub-mul}
-use Rattle.decide.proofs.Settled.{Alike, Span, Enough, enough-true, and-true, settled-if}
+use Rattle.decide.proofs.Settled.{Alike, Span, Enough, settled-if}
 use Rattle.decide.proofs.Decision.{decides-fixed, answer-read}
 use Rattle.columns.specs.Column.{readTo}
 use Rattle.settle.specs.Rows.{rowOf}
@@ -29,15 +29,11 @@ use Rattle.settle.specs.declared.rows.Row.the-variants.{Exact, Plus, Minus, Hol
 use Rattle.bridge.specs.Verdict.{pairOf, Ordered, Leads, readSum, settledBy, refusedBy, moreOf, testBy, exact?, inner?}
 use Rattle.bridge.proofs.Read.{read-scaled, read-some}
 use Rattle.bridge.proofs.Rows.{answerBy, rowSeen}
-use Rattle.bridge.proofs.Told.{Told, pair-gap, pair-same, alone-same, none, flat, first-weight, second-weight, seen-answer, seen, same-pair, unlike-pair, left-second, alone-left, alone-read, alone-seen, all-decided, all-decided-one, sum-alone, sum-same, sum-unlike, row-near, none-read}
+use Rattle.bridge.proofs.Told.{Told, pair-gap, pair-same, none, flat, first-weight, second-weight, seen-answer, seen, same-pair, unlike-pair, left-second, alone-left, alone-read, alone-seen, all-decided, all-decided-one, sum-alone, sum-same, sum-unlike, row-near, none-read, unlike-regular}
 use Rattle.bridge.proofs.Decision.{View, view}
 use Rattle.bridge.proofs.Refine.{half-answer}
 
 -- ---- what a settled row answers
-
-settled-enough : (w : Way) (p n : ℕ) (ml : Bool) (i : ℕ) (mg : Bool) → settled w p n ml i mg ≡ true → Enough w p n
-unfolding settled
-settled-enough w p n ml i mg e = enough-true w p n (and-true (enough w p n) _ e .0)
 
 alike-rounded : (w : Way) (p s : ℕ) (g : Bool) (lo hi : ℕ) → Alike w p lo hi → rounded w p s g lo ≡ rounded w p s g hi
 unfolding rounded
@@ -303,14 +299,13 @@ module _ (o : Mode) (p : ℕ) (P : 0 < p) (x y : Operand) (k : ℕ) (d : Ordered
         go (inr z) = both-exact (z .0) (z .1) (z .2) (z .3) lead
 
     pub cancelled-sum : q .same ≡ false → readTo k (q .gap) (y .limbs) ≡ X → rowOf q k ≡ Exact → add o p x y ≡ zeroOf (zeroSign o a b)
-    cancelled-sum f h is = go (y .isZero) refl
+    cancelled-sum f h is = go (unlike-regular x y f)
       where
         clash : {m n : ℕ} → m ≡ 0 → m ≡ n → 0 < n → ⊥
         clash h i l = omega arith
 
-        go : (z : Bool) → y .isZero ≡ z → add o p x y ≡ zeroOf (zeroSign o a b)
-        go true e = absurd (true≢false (sym (alone-same x y e) ∙ f))
-        go false e =
+        go : y .isZero ≡ false → add o p x y ≡ zeroOf (zeroSign o a b)
+        go e =
             let same : readTo k (t - y .exponent) (y .limbs) ≡ X = rw (pair-gap x y e) at h in
             elim (le-or-lt c (t - y .exponent)) [
               | inl far ↦ absurd (clash (none-read o p P x y k d K e far) same (read-some x (d .first) (d .regular) k K))

@@ -10,6 +10,8 @@ use lib.Dec.{ltb}
 use lib.Pow.{pow-pos}
 use lib.Ieee.{size}
 use lib.Ieee.Digits.{size-le}
+use Rattle.columns.proofs.Reading.{read-lt}
+use Rattle.limb.proofs.Tests.{both-true}
 use Rattle.limb.specs.Carry.{bit}
 use Rattle.numbers.specs.Limits.{mostPrecision, bias, leastExponent}
 use Rattle.numbers.specs.Operand.{Operand, WellFormed}
@@ -18,13 +20,12 @@ use Rattle.rounding.proofs.Order.{le-or-lt}
 use Rattle.depth.specs.Bound.{columnsFor, farColumns, deepest}
 use Rattle.decide.specs.Class.{off, lean, alike, enough, settled}
 use Rattle.decide.proofs.Lean.{lean-exact, lean-more}
-use Rattle.decide.proofs.Settled.{Enough, enough-le, and-true}
+use Rattle.decide.proofs.Settled.{Enough, enough-le}
 use Rattle.columns.specs.Column.{readTo}
 use Rattle.settle.specs.Rows.{rowOf}
 use Rattle.settle.specs.declared.rows.Row.{Row}
 use Rattle.settle.specs.declared.rows.Row.the-variants.{Exact, Plus, Minus, Hole}
 use Rattle.bridge.specs.Verdict.{pairOf, Ordered, readSum, settledBy, inner?}
-use Rattle.bridge.proofs.Read.{read-below}
 use Rattle.bridge.proofs.Rows.{rowSeen}
 use Rattle.bridge.proofs.Told.{sum-alone, sum-same, sum-unlike, none-read, row-near}
 use Rattle.bridge.proofs.Answers.{settled-digits}
@@ -77,8 +78,8 @@ module _ (w : Way) (p D : ℕ) (dir : (q r : ℕ) → alike Ordering·eq (off w 
   at-one : (ml : Bool) (i : ℕ) (mg : Bool) → settled w p D ml i mg ≡ true → (0 + i < 1) × (alike (lean w (D / 1) 1 0 ml) (lean w (D / 1) 1 (0 + i) mg) ≡ true)
   unfolding settled
   at-one ml i mg e =
-      let a = and-true (enough w p D) _ (rw (unit-one, rest-none) at e) in
-      let b = and-true (ltb (0 + i) 1) _ (a .1) in
+      let a = both-true (enough w p D) _ (rw (unit-one, rest-none) at e) in
+      let b = both-true (ltb (0 + i) 1) _ (a .1) in
       (ltb-true (0 + i) 1 (b .0), b .1)
 
   pub not-fresh : (row : Row) → Fresh row → settledBy w p D row ≡ true → ⊥
@@ -120,10 +121,10 @@ module _ (o : Mode) (p : ℕ) (P : 0 < p) (x y : Operand) (k : ℕ) (d : Ordered
   D = readSum x y k
 
   X-lt : X < 2 ^ c
-  X-lt = read-below k 0 (x .limbs) (d .first .limb)
+  X-lt = read-lt 0 (x .limbs) (d .first .limb) k
 
   Y-lt : Y < 2 ^ c
-  Y-lt = read-below k gap (y .limbs) (d .second .limb)
+  Y-lt = read-lt gap (y .limbs) (d .second .limb) k
 
   sum-small : (row : Row) → rowOf (pairOf x y) k ≡ row → inner? row ≡ true → (D < 2 ^ c) ⊎ ((D < 2 ^ suc c) × Fresh row)
   sum-small row is inner = go (y .isZero) (pairOf x y .same) refl refl

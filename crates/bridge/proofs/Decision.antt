@@ -1,15 +1,14 @@
 -- The decision of the theory is the verdict on the row, for every pair that the walk takes.
 use mathlib.Core.Path.{_≡_, refl, sym, ap, _∙_, subst}
 use mathlib.Core.Logic.{_⊎_, inl, inr}
-use mathlib.Core.Bool.{Bool, true, false, not, true≢false}
+use mathlib.Core.Bool.{Bool, true, false, not}
 use Prim.Native.Nat.{ℕ, zero, suc, _+_, _-_, _*_, _≤_, _<_}
 use native.Mathlib.Omega.{arith}
 use Rattle.numbers.specs.Operand.{Operand, mantissa}
 use Rattle.rounding.specs.Mode.{Mode}
-use Rattle.rounding.proofs.Order.{le-or-lt}
+use Rattle.rounding.proofs.Order.{le-or-lt, zero-or}
 use Rattle.decide.specs.Table.{some?, allRead, holeBySize}
 use Rattle.decide.specs.Decide.{decideAt}
-use Rattle.decide.proofs.Lean.{zero-or}
 use Rattle.columns.specs.Column.{readTo}
 use Rattle.settle.specs.Rows.{rowOf}
 use Rattle.settle.specs.declared.rows.Row.{Row}
@@ -17,18 +16,14 @@ use Rattle.settle.specs.declared.rows.Row.the-variants.{Exact, Plus, Minus, Hol
 use Rattle.bridge.specs.Verdict.{pairOf, Ordered, Leads, verdict, exact?}
 use Rattle.bridge.proofs.Read.{read-larger, read-some}
 use Rattle.bridge.proofs.Rows.{rowSeen, rowFar}
-use Rattle.bridge.proofs.Told.{Told, pair-gap, alone-same, row-near, row-one, row-beyond, told-same, told-unlike, told-one, told-far-same, told-far-unlike, all-decided, all-decided-one, hole-decide, none-read, equal-parts}
+use Rattle.bridge.proofs.Told.{Told, pair-gap, row-near, row-one, row-beyond, told-same, told-unlike, told-one, told-far-same, told-far-unlike, all-decided, all-decided-one, hole-decide, none-read, equal-parts, unlike-regular}
 
 -- where the exponents differ, the first has the larger read part
 pub leads : (x y : Operand) (k : ℕ) → Ordered x y → 1 ≤ k → y .exponent < x .exponent → Leads x y k
-leads x y k d K h f = go (y .isZero) refl
+leads x y k d K h f = rw (pair-gap x y (unlike-regular x y f)) (read-larger x y (d .first) (d .second) (d .regular) k (x .exponent - y .exponent) K (less h))
   where
     less : {m n : ℕ} → m < n → 1 ≤ n - m
     less h = omega arith
-
-    go : (z : Bool) → y .isZero ≡ z → readTo k (pairOf x y .gap) (y .limbs) < readTo k 0 (x .limbs)
-    go true e = absurd (true≢false (sym (alone-same x y e) ∙ f))
-    go false e = rw (pair-gap x y e) (read-larger x y (d .first) (d .second) (d .regular) k (x .exponent - y .exponent) K (less h))
 
 module _ (o : Mode) (p : ℕ) (P : 0 < p) (x y : Operand) (k : ℕ) (d : Ordered x y) (K : 1 ≤ k) where
   abbrev u : ℕ
@@ -120,7 +115,7 @@ module _ (o : Mode) (p : ℕ) (P : 0 < p) (x y : Operand) (k : ℕ) (d : Ordered
 
   -- of unlike signs and equal read parts nothing is decided while a digit is unread
   pub equal-decision : pairOf x y .same ≡ false → readTo k (pairOf x y .gap) (y .limbs) ≡ readTo k 0 (x .limbs) → decideAt o p x y k ≡ exact? (rowOf (pairOf x y) k)
-  equal-decision f h = go (y .isZero) refl
+  equal-decision f h = go (unlike-regular x y f)
     where
       all : (m n : ℕ) → allRead m n ≡ exact? (rowSeen false m n)
       all zero zero = unfold rowSeen exact? in refl
@@ -131,9 +126,8 @@ module _ (o : Mode) (p : ℕ) (P : 0 < p) (x y : Operand) (k : ℕ) (d : Ordered
       clash : {m n : ℕ} → m ≡ 0 → m ≡ n → 0 < n → ⊥
       clash a b c = omega arith
 
-      go : (z : Bool) → y .isZero ≡ z → decideAt o p x y k ≡ exact? (rowOf (pairOf x y) k)
-      go true e = absurd (true≢false (sym (alone-same x y e) ∙ f))
-      go false e =
+      go : y .isZero ≡ false → decideAt o p x y k ≡ exact? (rowOf (pairOf x y) k)
+      go e =
           let same : readTo k gap (y .limbs) ≡ readTo k 0 (x .limbs) = rw (pair-gap x y e) at h in
           elim (le-or-lt (64 * k) gap) [
             | inl far ↦ absurd (clash (none-read o p P x y k d K e far) same (read-some x (d .first) (d .regular) k K))

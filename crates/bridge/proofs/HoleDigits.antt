@@ -23,6 +23,13 @@ chosen-rounded : (v w : Way) (p s : ℕ) (g : Bool) (m : ℕ) → chosen v p m �
 unfolding rounded
 chosen-rounded v w p s g m e = cc
 
+pub borrowed : (a n c : ℕ) → 0 < n → a < c → n * c - a ≡ (n - 1) * c + (c - a)
+borrowed a zero c h k = absurd (omega arith)
+borrowed a (suc n) c h k = let e : suc n - 1 ≡ n = pred n in rw e (omega arith)
+  where
+    pred : (n : ℕ) → suc n - 1 ≡ n
+    pred n = omega arith
+
 -- ---- m digits of weight 2 ^ l, and a below the weight 2 ^ U, both counted in 2 ^ s
 
 module _ (p : ℕ) (P : 0 < p) (g : Bool) (m l U s a : ℕ) (above : U ≤ l) (low : s ≤ U) (some : 0 < a) (less : a < 2 ^ (U - s)) where
@@ -47,19 +54,12 @@ module _ (p : ℕ) (P : 0 < p) (g : Bool) (m l U s a : ℕ) (above : U ≤ l) (l
   pub more-below : (w : Way) → Enough w p n → rounded w p s g (m * 2 ^ (l - s) + a) ≡ settledAnswer w p U g n true
   more-below w h = ap (λ (z : ℕ). rounded w p s g (z + a)) counted ∙ read-answer w p s P g (U - s) n true a (some, less) h ∙ ap (λ (z : ℕ). settledAnswer w p z g n true) back
 
-  borrowed : (n c : ℕ) → 0 < n → a < c → n * c - a ≡ (n - 1) * c + (c - a)
-  borrowed zero c h k = absurd (omega arith)
-  borrowed (suc n) c h k = let e : suc n - 1 ≡ n = pred n in rw e (omega arith)
-    where
-      pred : (n : ℕ) → suc n - 1 ≡ n
-      pred n = omega arith
-
   rest : (c : ℕ) → 0 < a → a < c → (0 < c - a) × (c - a < c)
   rest c h k = (omega arith, omega arith)
 
   pub less-below : (w : Way) → 0 < n → Enough w p (n - 1) → rounded w p s g (m * 2 ^ (l - s) - a) ≡ settledAnswer w p U g (n - 1) true
   less-below w pos h =
-      ap (λ (z : ℕ). rounded w p s g (z - a)) counted ∙ ap (rounded w p s g) (borrowed n C pos less)
+      ap (λ (z : ℕ). rounded w p s g (z - a)) counted ∙ ap (rounded w p s g) (borrowed a n C pos less)
       ∙ read-answer w p s P g (U - s) (n - 1) true (C - a) (rest C some less) h ∙ ap (λ (z : ℕ). settledAnswer w p z g (n - 1) true) back
 
 -- ---- n has just p digits, and what is below is half a unit or more, or half or less

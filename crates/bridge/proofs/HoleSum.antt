@@ -9,17 +9,17 @@ use borrow.Author.Tests.{ltb-true, eqb-true, eqb-false, eq-eqb, ne-eqb}
 use lib.Dec.{ltb, eqb}
 use lib.Pow.{pow-pos, pow-mono, pow-add}
 use lib.Ieee.{size}
+use Rattle.limb.proofs.Tests.{both-true}
 use Rattle.numbers.specs.Operand.{Operand, mantissa, lastWeight}
 use Rattle.numbers.proofs.Digits.{mantissa-lt, mantissa-ge, precision-two}
 use Rattle.rounding.specs.Mode.{Mode, Way, way, near, under, over}
 use Rattle.rounding.specs.Answer.{rounded, answer}
 use Rattle.rounding.specs.Sum.{scale, share, amount, zeroSign, sumAt, add}
 use Rattle.rounding.proofs.Order.{le-or-lt, mul-one-one}
-use Rattle.rounding.proofs.Even.{size-is, size-ge}
+use Rattle.limb.proofs.Sizes.{size-is, size-ge}
 use Rattle.rounding.proofs.Ends.{plus as positive, minus as negative}
 use Rattle.rounding.proofs.Scale.{size-shift}
-use Rattle.rounding.proofs.Zeros.{share-as, share-not-as}
-use Rattle.depth.proofs.Amounts.{amount-is}
+use Rattle.rounding.proofs.Zeros.{share-as, share-other, amount-is}
 use Rattle.depth.proofs.Columns.{digits-counted}
 use Rattle.decide.specs.Table.{some?, odd?, hole?, holeBySize}
 use Rattle.decide.proofs.Settled.{Enough}
@@ -28,7 +28,7 @@ use Rattle.settle.specs.declared.rows.Pair.{Pair}
 use Rattle.bridge.specs.Verdict.{pairOf, Ordered, readSum, middle?, holeWay}
 use Rattle.bridge.proofs.Read.{size-mantissa, read-whole}
 use Rattle.bridge.proofs.Told.{pair-gap, pair-same, second-weight, sum-same, sum-unlike, none-read}
-use Rattle.bridge.proofs.HoleDigits.{more-below, less-below, upper-half, lower-half}
+use Rattle.bridge.proofs.HoleDigits.{more-below, less-below, upper-half, lower-half, borrowed}
 
 -- ---- the sum by amounts
 
@@ -61,10 +61,10 @@ module _ (o : Mode) (p : ℕ) (P : 0 < p) (x y : Operand) where
     where
       go : (a : Bool) → x .negative ≡ a → y .negative ≡ x .negative → add o p x y ≡ rounded (way o (x .negative)) p s (x .negative) (amount s x + amount s y)
       go false f i =
-          add-at (amount s x + amount s y) (0 + 0) (both (share-as false s x f) (share-as false s y (i ∙ f))) (both (share-not-as false s x f) (share-not-as false s y (i ∙ f)))
+          add-at (amount s x + amount s y) (0 + 0) (both (share-as false s x f) (share-as false s y (i ∙ f))) (both (share-other true s x f) (share-other true s y (i ∙ f)))
           ∙ positive zeroed o p s P (amount s x + amount s y) (0 + 0) h ∙ ap (rounded (way o false) p s false) (flat (amount s x + amount s y)) ∙ under-sign false (amount s x + amount s y) f
       go true f i =
-          add-at (0 + 0) (amount s x + amount s y) (both (share-not-as true s x f) (share-not-as true s y (i ∙ f))) (both (share-as true s x f) (share-as true s y (i ∙ f)))
+          add-at (0 + 0) (amount s x + amount s y) (both (share-other false s x f) (share-other false s y (i ∙ f))) (both (share-as true s x f) (share-as true s y (i ∙ f)))
           ∙ negative zeroed o p s P (0 + 0) (amount s x + amount s y) h ∙ ap (rounded (way o true) p s true) (flat (amount s x + amount s y)) ∙ under-sign true (amount s x + amount s y) f
 
   pub unlike-amounts : y .negative ≡ not (x .negative) → amount s y < amount s x → add o p x y ≡ rounded (way o (x .negative)) p s (x .negative) (amount s x - amount s y)
@@ -76,11 +76,11 @@ module _ (o : Mode) (p : ℕ) (P : 0 < p) (x y : Operand) where
       go : (a : Bool) → x .negative ≡ a → y .negative ≡ not (x .negative) → add o p x y ≡ rounded (way o (x .negative)) p s (x .negative) (amount s x - amount s y)
       go false f i =
           let l : y .negative ≡ true = i ∙ ap not f in
-          add-at (amount s x + 0) (0 + amount s y) (both (share-as false s x f) (share-not-as true s y l)) (both (share-not-as false s x f) (share-as true s y l))
+          add-at (amount s x + 0) (0 + amount s y) (both (share-as false s x f) (share-other false s y l)) (both (share-other true s x f) (share-as true s y l))
           ∙ positive zeroed o p s P (amount s x + 0) (0 + amount s y) (wide (amount s x) (amount s y) h) ∙ ap (rounded (way o false) p s false) (outer (amount s x) (amount s y)) ∙ under-sign false (amount s x - amount s y) f
       go true f i =
           let l : y .negative ≡ false = i ∙ ap not f in
-          add-at (0 + amount s y) (amount s x + 0) (both (share-not-as true s x f) (share-as false s y l)) (both (share-as true s x f) (share-not-as false s y l))
+          add-at (0 + amount s y) (amount s x + 0) (both (share-other false s x f) (share-as false s y l)) (both (share-as true s x f) (share-other true s y l))
           ∙ negative zeroed o p s P (0 + amount s y) (amount s x + 0) (wide (amount s x) (amount s y) h) ∙ ap (rounded (way o true) p s true) (outer (amount s x) (amount s y)) ∙ under-sign true (amount s x - amount s y) f
 
 -- ---- the test of the hole, read
@@ -113,10 +113,6 @@ hole-read near p digits odd e = go (ltb (p + 1) (suc digits)) refl e
 
     even : p + 1 ≡ suc digits → p ≡ digits
     even h = omega arith
-
-    both-true : (a b : Bool) → (a && b) ≡ true → (a ≡ true) × (b ≡ true)
-    both-true true b e = (refl, e)
-    both-true false b e = absurd (true≢false (sym e))
 
     go : (b : Bool) → ltb (p + 1) (suc digits) ≡ b → (b || (eqb (p + 1) (suc digits) && odd)) ≡ true → Room near p digits ⊎ ((near ≡ near) × (p ≡ digits) × (odd ≡ true))
     go true f e = inl (less (ltb-true (p + 1) (suc digits) f))
@@ -205,13 +201,6 @@ rest-less n c h k = omega arith
 
 rest-half : (n c : ℕ) → c ≤ n * 2 → (c - n) * 2 ≤ c
 rest-half n c h = omega arith
-
-with-borrow : (a n c : ℕ) → 0 < n → a < c → n * c - a ≡ (n - 1) * c + (c - a)
-with-borrow a zero c h k = absurd (omega arith)
-with-borrow a (suc n) c h k = let e : suc n - 1 ≡ n = pred n in rw e (omega arith)
-  where
-    pred : (n : ℕ) → suc n - 1 ≡ n
-    pred n = omega arith
 
 pred-lt : (n c : ℕ) → n < c → n - 1 < c
 pred-lt n c h = omega arith
@@ -538,9 +527,9 @@ module _ (o : Mode) (p : ℕ) (P : 0 < p) (x y : Operand) (k : ℕ) (d : Ordered
           let moved = first-is ∙ ap (λ (j : ℕ). M * 2 ^ (j - r)) (side .1) in
           ap (λ (j : Way). rounded j p r a (amount r x - N)) (n .0)
           ∙ ap (λ (j : ℕ). rounded near p r a (j - N)) moved
-          ∙ ap (rounded near p r a) (with-borrow N M (2 ^ (v - r)) M-pos second-lt)
+          ∙ ap (rounded near p r a) (borrowed N M (2 ^ (v - r)) M-pos second-lt)
           ∙ lower-half p P r a (M - 1) (v - r) (2 ^ (v - r) - N) (just other (n .1 ∙ side .0)) (rest-pos N (2 ^ (v - r)) second-lt) (rest-less N (2 ^ (v - r)) (pow-pos (v - r)) N-pos) (odd-pred M (one .0)) (rest-half N (2 ^ (v - r)) second-half)
-          ∙ ap (rounded under p r a) (sym (with-borrow N M (2 ^ (v - r)) M-pos second-lt))
+          ∙ ap (rounded under p r a) (sym (borrowed N M (2 ^ (v - r)) M-pos second-lt))
           ∙ ap (λ (j : ℕ). rounded under p r a (j - N)) (sym moved)
           ∙ less-hole v at-top (le-refl v) (side .2) under D (sum-read-unlike f) (le-trans (le-of-eq (n .1 ∙ sym (top-size t m c (64 * b) v m-le v-le far room))) (pred-full other (l - v)))
           ∙ ap (λ (j : Way). rounded j p H a (2 * (D * 2 ^ (64 * b)) - 1)) (sym (way-on false f (n .0) (n .1)))

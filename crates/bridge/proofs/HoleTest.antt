@@ -1,6 +1,6 @@
 -- The test of the hole on precisions and limbs: is x a power of two, and is its last digit 1.
 use mathlib.Core.Path.{_≡_, refl, sym, ap, _∙_}
-use mathlib.Core.Bool.{Bool, true, false, not, cond, _&&_}
+use mathlib.Core.Bool.{Bool, true, false, not, cond, _&&_, and-comm}
 use mathlib.Core.List.{List}
 use Prim.Native.Nat.{ℕ, suc, _+_, _-_, _*_, _/_, _%_, _^_, _≤_, _<_}
 use native.Mathlib.Nat.{add-mul-div-left, add-mul-mod-self-left, mul-assoc, pow-succ'}
@@ -9,6 +9,7 @@ use lib.Dec.{eqb}
 use lib.ListN.{length, getD, drop}
 use lib.Pow.{pow-pos, pow-add}
 use lib.Ieee.{size}
+use Rattle.decide.proofs.HoleTest.{eqb-none}
 use Rattle.limb.specs.Value.{valueOf}
 use Rattle.limb.proofs.Value.{value-drop}
 use Rattle.numbers.specs.Limits.{limbsFor}
@@ -21,7 +22,6 @@ use Rattle.settle.specs.Rows.{rowOf}
 use Rattle.settle.specs.declared.rows.Row.the-variants.{Hole}
 use Rattle.bridge.specs.Verdict.{pairOf, Ordered}
 use Rattle.bridge.proofs.Read.{width-is, size-mantissa}
-use Rattle.bridge.proofs.Rows.{eqb-none}
 use Rattle.bridge.proofs.Told.{pair-same, pair-gap}
 use Rattle.bridge.proofs.Theorems.{hole-place, hole-decision}
 
@@ -91,14 +91,8 @@ module _ (o : Mode) (p : ℕ) (P : 0 < p) (x y : Operand) (k : ℕ) (d : Ordered
           le : (m c : ℕ) {n : ℕ} → m - c ≡ 0 → c ≤ n → m ≤ n
           le m c e h = omega arith
 
-      turn : (a b : Bool) → (a && b) ≡ (b && a)
-      turn true true = refl
-      turn true false = refl
-      turn false true = refl
-      turn false false = refl
-
       odd-is : (odd? M && not (some? (gap - x .precision))) ≡ (eqb gap (x .precision) && odd? M)
-      odd-is = ap (λ (b : Bool). odd? M && b) (sym (eqb-none gap (x .precision) m-le)) ∙ turn (odd? M) (eqb gap (x .precision))
+      odd-is = ap (λ (b : Bool). odd? M && b) (sym (eqb-none gap (x .precision) m-le)) ∙ and-comm (odd? M) (eqb gap (x .precision))
 
       digits-is : size M + (gap - x .precision) + 1 ≡ gap + 1
       digits-is = ap (λ (n : ℕ). n + (gap - x .precision) + 1) (size-mantissa x (d .first) (d .regular)) ∙ back (x .precision) gap m-le

@@ -4,7 +4,6 @@ pub mod Told
 pub mod Decision
 pub mod Refine
 pub mod Answers
-pub mod Exchange
 pub mod HoleDigits
 pub mod HoleSum
 pub mod Covered

@@ -4,24 +4,23 @@ use mathlib.Core.Logic.{inl, inr}
 use mathlib.Core.Bool.{false}
 use mathlib.Core.List.{List}
 use Prim.Native.Nat.{ℕ, suc, _+_, _-_, _*_, _/_, _^_, _≤_, _<_}
-use native.Mathlib.Nat.{zero-add, le-trans, le-of-eq, lt-of-lt-of-le, mul-right-comm, mul-assoc, mul-one, mul-le-mul-right, mul-lt-mul-of-pos-right, div-add-mod', mul-div-mul-right, mul-div-cancel, div-mul-le-self, le-div-iff-mul-le, div-lt-iff-lt-mul}
+use native.Mathlib.Nat.{zero-add, le-trans, le-of-eq, lt-of-lt-of-le, mul-right-comm, mul-assoc, mul-one, mul-le-mul-right, div-add-mod', mul-div-mul-right, mul-div-cancel, div-mul-le-self, le-div-iff-mul-le}
 use native.Mathlib.Omega.{arith}
 use lib.ListN.{length}
 use lib.Ieee.{size}
 use lib.Pow.{pow-pos, pow-mono, pow-add}
-use Rattle.limb.specs.Value.{valueOf, Below}
-use Rattle.limb.proofs.Value.{value-lt, base-pow}
+use Rattle.limb.specs.Value.{valueOf}
 use Rattle.numbers.specs.Limits.{limbsFor}
 use Rattle.numbers.specs.Operand.{Operand, mantissa, lastWeight, spareBits, WellFormed}
 use Rattle.numbers.proofs.Digits.{digits-and-spare, mantissa-lt, mantissa-ge, precision-two}
 use Rattle.rounding.proofs.Order.{le-or-lt}
-use Rattle.rounding.proofs.Even.{size-is}
+use Rattle.limb.proofs.Sizes.{size-is}
 use Rattle.depth.specs.Read.{unread}
 use Rattle.depth.proofs.Columns.{digits-counted}
 use Rattle.decide.specs.Decide.{readPart}
 use Rattle.decide.proofs.Beyond.{read-is}
 use Rattle.columns.specs.Column.{readTo}
-use Rattle.columns.proofs.Reading.{read-fewer}
+use Rattle.columns.proofs.Reading.{read-fewer, read-small}
 
 -- ---- digits moved up and down
 
@@ -62,17 +61,6 @@ part-flat v m d c s t e h i = omega arith
 
 -- ---- any limbs
 
--- what begins `gap` digits below the top has so many fewer
-pub read-lt : (k gap : ℕ) (l : List ℕ) → Below (2 ^ 64) l → readTo k gap l < 2 ^ (64 * k - gap)
-unfolding readTo
-read-lt k gap l h =
-    div-lt-iff-lt-mul (pow-pos (64 * length l + gap)) .1
-    (lt-of-lt-of-le (mul-lt-mul-of-pos-right (lt-of-lt-of-le (value-lt (2 ^ 64) l h) (le-of-eq (base-pow (length l)))) (pow-pos (64 * k)))
-    (le-trans (le-of-eq (sym (pow-add 2 (64 * length l) (64 * k)))) (le-trans (pow-mono (room (64 * length l) (64 * k))) (le-of-eq (pow-add 2 (64 * k - gap) (64 * length l + gap))))))
-  where
-    room : (n c : ℕ) → n + c ≤ c - gap + (n + gap)
-    room n c = omega arith
-
 -- more columns keep the order
 pub read-later : (k j gap height : ℕ) (l h : List ℕ) → readTo k gap l < readTo k height h → readTo (k + j) gap l < readTo (k + j) height h
 read-later k j gap height l h lt = elim (le-or-lt (readTo (k + j) height h) (readTo (k + j) gap l)) [
@@ -85,22 +73,6 @@ read-later k j gap height l h lt = elim (le-or-lt (readTo (k + j) height h) (rea
 
     shr-mono : {m n : ℕ} → m ≤ n → m / 2 ^ (64 * j) ≤ n / 2 ^ (64 * j)
     shr-mono {m} {n} e = le-div-iff-mul-le (pow-pos (64 * j)) .1 (le-trans (div-mul-le-self m (2 ^ (64 * j))) e)
-
-pub read-below : (k gap : ℕ) (l : List ℕ) → Below (2 ^ 64) l → readTo k gap l < 2 ^ (64 * k)
-read-below k gap l h = lt-of-lt-of-le (read-lt k gap l h) (pow-mono (less (64 * k)))
-  where
-    less : (c : ℕ) → c - gap ≤ c
-    less c = omega arith
-
--- nothing is read of what begins below
-pub read-none : (k gap : ℕ) (l : List ℕ) → Below (2 ^ 64) l → 64 * k ≤ gap → readTo k gap l ≡ 0
-read-none k gap l h u = none (readTo k gap l) (subst (λ (n : ℕ). readTo k gap l < 2 ^ n) (flat (64 * k) u) (read-lt k gap l h))
-  where
-    flat : (c : ℕ) → c ≤ gap → c - gap ≡ 0
-    flat c h = omega arith
-
-    none : (n : ℕ) → n < 2 ^ 0 → n ≡ 0
-    none n h = omega arith
 
 -- ---- an operand of good form
 
@@ -225,7 +197,7 @@ module _ (z : Operand) (g : WellFormed z) (r : z .isZero ≡ false) where
 -- ---- the operand with the larger exponent has the larger read part
 
 pub read-larger : (x y : Operand) → WellFormed x → WellFormed y → x .isZero ≡ false → (k gap : ℕ) → 1 ≤ k → 1 ≤ gap → readTo k gap (y .limbs) < readTo k 0 (x .limbs)
-read-larger x y g h r k gap K G = lt-of-lt-of-le (read-lt k gap (y .limbs) (h .limb)) (le-trans (pow-mono (less (64 * k))) (read-lead x g r k K))
+read-larger x y g h r k gap K G = lt-of-lt-of-le (read-small gap (y .limbs) (h .limb) k) (le-trans (pow-mono (less (64 * k))) (read-lead x g r k K))
   where
     less : (c : ℕ) → c - gap ≤ c - 1
     less c = omega arith

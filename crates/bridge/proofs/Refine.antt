@@ -9,12 +9,13 @@ use borrow.Author.Tests.{eq-eqb, ne-eqb}
 use lib.Dec.{eqb}
 use lib.Pow.{pow-pos}
 use lib.Ieee.{size}
+use Rattle.rounding.proofs.Order.{zero-or}
 use Rattle.limb.specs.Carry.{bit}
 use Rattle.rounding.specs.Mode.{Way, near, under, over}
 use Rattle.rounding.specs.Answer.{rounded}
 use Rattle.rounding.proofs.Scale.{rounded-shift}
 use Rattle.decide.specs.Answer.{settledAnswer}
-use Rattle.decide.proofs.Lean.{Part, zero-or}
+use Rattle.decide.proofs.Lean.{Part}
 use Rattle.decide.proofs.Settled.{Enough, enough-le}
 use Rattle.decide.proofs.Carry.{size-pos}
 use Rattle.decide.proofs.Answered.{read-answer}

@@ -1,19 +1,21 @@
 -- The rows by the digits that are unread, and the decision and the answer on a row.
 use mathlib.Core.Path.{_≡_, refl, sym, ap}
-use mathlib.Core.Bool.{Bool, true, false, not, cond, _&&_, _||_}
-use Prim.Native.Nat.{ℕ, zero, suc, _+_, _-_, _*_, _^_, _≤_, _<_, Ordering, Ordering·lt, Ordering·eq, Ordering·gt}
+use mathlib.Core.Bool.{Bool, true, false, not, cond, _&&_, _||_, and-false}
+use Prim.Native.Nat.{ℕ, zero, suc, _+_, _-_, _*_, _≤_, _<_}
 use native.Mathlib.Omega.{arith}
 use borrow.Author.Tests.{ltb-true, ltb-false, eqb-true, eqb-false, lt-ltb, le-ltb, le-leb, lt-leb, eq-eqb, ne-eqb}
 use lib.Dec.{ltb, leb, eqb}
 use lib.Ieee.{size}
+use Rattle.decide.proofs.HoleTest.{eqb-none}
+use Rattle.bounds.proofs.Ranges.{carry-le, short-le}
 use Rattle.limb.specs.Carry.{bit}
-use Rattle.rounding.specs.Mode.{Way, near, under, over}
+use Rattle.rounding.specs.Mode.{Way}
 use Rattle.rounding.specs.Answer.{Answer, rounded, tooLarge, tooSmall}
 use Rattle.rounding.proofs.Order.{size-mono}
 use Rattle.numbers.specs.Limits.{leastExponent, mostExponent}
 use Rattle.numbers.proofs.Limits.{range-some}
 use Rattle.decide.specs.Class.{settled, enough}
-use Rattle.decide.specs.Range.{bump, carry, shortLeast, large?, small?, orLarge, orSmall}
+use Rattle.decide.specs.Range.{carry, shortLeast, large?, small?, orLarge, orSmall}
 use Rattle.decide.specs.Table.{some?, sameRow, unlikeRow, farSameRow, farUnlikeRow, sameSigns, unlikeSigns, farSame, farUnlike}
 use Rattle.decide.specs.Answer.{decidedAnswer, sameAnswer, unlikeAnswer}
 use Rattle.settle.specs.Rows.{rowOf}
@@ -63,19 +65,6 @@ eqb-one n c = go (eqb (n - c) 1) refl
     go true e = eq-eqb n (c + 1) (to (eqb-true (n - c) 1 e))
     go false e = ne-eqb n (c + 1) (λ f. eqb-false (n - c) 1 e (back f))
 
-pub eqb-none : (n c : ℕ) → c ≤ n → eqb n c ≡ not (some? (n - c))
-eqb-none n c h = go (n - c) refl
-  where
-    none : n - c ≡ 0 → n ≡ c
-    none e = omega arith
-
-    more : (d : ℕ) → n - c ≡ suc d → n ≡ c → ⊥
-    more d e f = omega arith
-
-    go : (d : ℕ) → n - c ≡ d → eqb n c ≡ not (some? d)
-    go zero e = eq-eqb n c (none e)
-    go (suc d) e = ne-eqb n c (more d e)
-
 ltb-left : (m n c : ℕ) → c ≤ m → ltb m n ≡ ltb (m - c) (n - c)
 ltb-left m n c h = go (ltb m n) refl
   where
@@ -92,10 +81,6 @@ ltb-left m n c h = go (ltb m n) refl
 one-none : (u : ℕ) → eqb (suc u) 1 ≡ not (some? u)
 one-none zero = refl
 one-none (suc u) = ne-eqb (suc (suc u)) 1 (λ e. omega arith)
-
-and-false : (b : Bool) → (b && false) ≡ false
-and-false true = refl
-and-false false = refl
 
 either : (a b : Bool) → not (not a && not b) ≡ (a || b)
 either true b = refl
@@ -263,26 +248,6 @@ module _ (w : Way) (p e : ℕ) (g : Bool) (X : ℕ) where
 
 -- ---- refused, and not settled
 
-at-most-one : (b : Bool) → cond b 1 0 ≤ 1
-at-most-one true = omega arith
-at-most-one false = omega arith
-
-bump-one : (o : Ordering) (p q : ℕ) → bump o p q ≤ 1
-unfolding bump
-bump-one Ordering·lt p q = omega arith
-bump-one Ordering·eq p q = omega arith
-bump-one Ordering·gt p q = at-most-one (eqb (suc q) (2 ^ p))
-
-carry-one : (w : Way) (p n : ℕ) (more : Bool) → carry w p n more ≤ 1
-unfolding carry
-carry-one w p n more = bump-one _ p _
-
-short-one : (w : Way) (p n : ℕ) (half : Bool) → shortLeast w p n half ≤ 1
-unfolding shortLeast
-short-one near p n half = at-most-one (half && eqb (suc n) (2 ^ p))
-short-one under p n half = omega arith
-short-one over p n half = omega arith
-
 -- what is too small is not too large
 small-not-large : (w : Way) (p e n D : ℕ) (ml half mg : Bool) (tail : ℕ) → n ≤ D → small? w p e D mg tail ≡ true → large? w p e n ml half ≡ false
 unfolding large? small?
@@ -290,8 +255,8 @@ small-not-large w p e n D ml half mg tail h s =
     le-ltb mostExponent _ (go (size n) (size D) _ _ (size-mono n D h) (one (enough w p n)) (ltb-true _ leastExponent s))
   where
     one : (b : Bool) → cond b (carry w p n ml) (shortLeast w p n half) ≤ 1
-    one true = carry-one w p n ml
-    one false = short-one w p n half
+    one true = carry-le w p n ml
+    one false = short-le w p n half
 
     go : (a b i j : ℕ) → a ≤ b → i ≤ 1 → b + j + e < leastExponent → a + i + e ≤ mostExponent
     go a b i j h k l = omega (arith, range-some)

@@ -10,10 +10,8 @@ use Rattle.rounding.specs.Mode.{Mode, way}
 use Rattle.rounding.specs.Answer.{rounded}
 use Rattle.rounding.specs.Sum.{add}
 use Rattle.rounding.proofs.Order.{le-or-lt}
-use Rattle.depth.specs.Depth.{plus, Deciding}
 use Rattle.decide.specs.Table.{holeBySize}
 use Rattle.decide.specs.Decide.{decideAt}
-use Rattle.decide.proofs.Decision.{depth-decided}
 use Rattle.columns.specs.Column.{readTo}
 use Rattle.settle.specs.Rows.{rowOf}
 use Rattle.settle.specs.declared.rows.Row.{Row}
@@ -21,7 +19,7 @@ use Rattle.settle.specs.declared.rows.Row.the-variants.{Exact, Plus, Minus, Hol
 use Rattle.bridge.specs.Verdict.{pairOf, Ordered, Leads, readSum, settledBy, moreOf, verdict, exact?, inner?, holeWay}
 use Rattle.bridge.proofs.Read.{read-later, read-more, read-some}
 use Rattle.bridge.proofs.Rows.{rowSeen, rowFar}
-use Rattle.bridge.proofs.Told.{pair-gap, alone-same, row-one, row-near, row-beyond, none-read}
+use Rattle.bridge.proofs.Told.{pair-gap, row-one, row-near, row-beyond, none-read, unlike-regular}
 use Rattle.bridge.proofs.Decision.{leads, decision, equal-decision}
 use Rattle.bridge.proofs.Answers.{none-left, sum-pos, settled-sum, exact-sum}
 use Rattle.bridge.proofs.Refine.{whole-half}
@@ -58,11 +56,6 @@ far-hole true (suc u) f e = absurd (true≢false (sym e))
 far-hole false (suc u) f e = absurd (true≢false (sym e))
 
 module _ (o : Mode) (p : ℕ) (P : 0 < p) (x y : Operand) (k : ℕ) (d : Ordered x y) (K : 1 ≤ k) where
-  -- ---- the depth
-
-  pub deciding : Leads x y k → verdict o p x y k (rowOf (pairOf x y) k) ≡ true → (1 < k → decideAt o p x y (k - 1) ≡ false) → Deciding plus o p x y k
-  deciding lead e f = depth-decided o p P x y (d .first) (d .second) k K (decision o p P x y k d K lead ∙ e) f
-
   -- ---- the answer of a settled row, all read or not
 
   pub row-sum : Leads x y k → (row : Row) → rowOf (pairOf x y) k ≡ row → 64 * k + 1 ≤ x .exponent → settledBy (way o (x .negative)) p (readSum x y k) row ≡ true
@@ -83,7 +76,7 @@ module _ (o : Mode) (p : ℕ) (P : 0 < p) (x y : Operand) (k : ℕ) (d : Ordered
 
   -- of unlike signs, while the read parts are equal and the next column parts them, nothing is decided
   pub level-open : pairOf x y .same ≡ false → readTo k (pairOf x y .gap) (y .limbs) ≡ readTo k 0 (x .limbs) → readTo (k + 1) (pairOf x y .gap) (y .limbs) < readTo (k + 1) 0 (x .limbs) → decideAt o p x y k ≡ false
-  level-open f h lt = equal-decision o p P x y k d K f h ∙ go (y .isZero) refl
+  level-open f h lt = equal-decision o p P x y k d K f h ∙ by (exact? (rowOf (pairOf x y) k)) refl
     where
       read : (m n c : ℕ) → m + n - c ≡ 0 → n + m ≤ c
       read m n c e = omega arith
@@ -112,13 +105,9 @@ module _ (o : Mode) (p : ℕ) (P : 0 < p) (x y : Operand) (k : ℕ) (d : Ordered
             (ap (λ (z : ℕ). z * 2 ^ (64 * 1)) (rw (pair-gap x y e) at h)) (rw (pair-gap x y e) at lt)
       ]
 
-      go : (z : Bool) → y .isZero ≡ z → exact? (rowOf (pairOf x y) k) ≡ false
-      go true e = absurd (true≢false (sym (alone-same x y e) ∙ f))
-      go false e = by (exact? (rowOf (pairOf x y) k)) refl
-        where
-          by : (b : Bool) → exact? (rowOf (pairOf x y) k) ≡ b → b ≡ false
-          by false i = refl
-          by true i = absurd (never e (row-exact (rowOf (pairOf x y) k) i))
+      by : (b : Bool) → exact? (rowOf (pairOf x y) k) ≡ b → b ≡ false
+      by false i = refl
+      by true i = absurd (never (unlike-regular x y f) (row-exact (rowOf (pairOf x y) k) i))
 
   -- ---- the hole
 

@@ -1,13 +1,17 @@
 -- The decision on two operands, and its answer, are those on the row and the sum of the read parts.
 use mathlib.Core.Path.{_≡_, refl, sym, ap, _∙_, subst}
 use mathlib.Core.Logic.{inl, inr}
-use mathlib.Core.Bool.{Bool, true, false, not, cond, _&&_, _||_, Bool·beq, true≢false}
+use mathlib.Core.Bool.{Bool, true, false, not, cond, _||_, Bool·beq, true≢false, and-false, or-false}
 use Prim.Native.Nat.{ℕ, zero, suc, _+_, _-_, _*_, _/_, _^_, _≤_, _<_, max}
 use native.Mathlib.Nat.{le-refl, le-trans, le-of-eq, zero-mul}
 use native.Mathlib.Omega.{arith}
 use borrow.Author.Tests.{lt-ltb, le-ltb, le-leb, lt-leb, ne-eqb}
 use lib.Dec.{ltb, eqb}
 use lib.Ieee.{size}
+use Rattle.rounding.proofs.Units.{scale-first, scale-second}
+use Rattle.decide.proofs.HoleTest.{eqb-none}
+use Rattle.columns.proofs.Reading.{read-early}
+use Rattle.rounding.proofs.Order.{zero-or}
 use Rattle.numbers.specs.Operand.{Operand, mantissa, lastWeight}
 use Rattle.numbers.proofs.Digits.{precision-two}
 use Rattle.rounding.specs.Mode.{Mode, Way, way}
@@ -16,13 +20,12 @@ use Rattle.rounding.specs.Sum.{scale, amount, zeroSign}
 use Rattle.depth.specs.Columns.{topExponent}
 use Rattle.depth.specs.Read.{unread}
 use Rattle.depth.proofs.Columns.{digits-counted}
-use Rattle.depth.proofs.Place.{scale-first, scale-second}
+use Rattle.depth.proofs.Place.{top-ordered}
 use Rattle.depth.proofs.Reach.{end}
 use Rattle.decide.specs.Range.{large?, small?, orSmall}
 use Rattle.decide.specs.Table.{some?, allRead, sameSigns, unlikeSigns, unlikePair, seenPair, farPair, farSame, farUnlike, holeBySize, sameRow, unlikeRow}
 use Rattle.decide.specs.Decide.{reaches?, readPart, leftOver, beyond, decideAt}
 use Rattle.decide.specs.Answer.{seenAnswer, sameAnswer, unlikeAnswer, unlikePairAnswer, farAnswer, beyondAnswer, answerAt}
-use Rattle.decide.proofs.Lean.{zero-or}
 use Rattle.decide.proofs.Rows.{Seen, Held, same-one, sides-same-one}
 use Rattle.decide.proofs.Range.{only-large, only-small}
 use Rattle.decide.proofs.ReadPart.{seen-is, seen-held, seen-pos}
@@ -34,8 +37,8 @@ use Rattle.settle.specs.Rows.{rowOf}
 use Rattle.settle.specs.declared.rows.Pair.{Pair}
 use Rattle.settle.specs.declared.rows.Row.{Row}
 use Rattle.bridge.specs.Verdict.{pairOf, Ordered, isFar, openDigits, readSum, settledBy, refusedBy, testBy}
-use Rattle.bridge.proofs.Read.{read-none, read-part}
-use Rattle.bridge.proofs.Rows.{ltb-some, eqb-none, rowSeen, rowFar, row-seen, row-alone, row-far, same-verdict, unlike-verdict, far-same-verdict, far-unlike-verdict, answerBy, same-answer, unlike-answer, far-same-answer, far-unlike-answer, same-refused, unlike-refused, far-refused}
+use Rattle.bridge.proofs.Read.{read-part}
+use Rattle.bridge.proofs.Rows.{ltb-some, rowSeen, rowFar, row-seen, row-alone, row-far, same-verdict, unlike-verdict, far-same-verdict, far-unlike-verdict, answerBy, same-answer, unlike-answer, far-same-answer, far-unlike-answer, same-refused, unlike-refused, far-refused}
 
 -- ---- the pair
 
@@ -77,13 +80,17 @@ pub alone-same : (x y : Operand) → y .isZero ≡ true → pairOf x y .same ≡
 unfolding pairOf
 alone-same x y e = rw e
 
+-- so the second of unlike signs is regular
+pub unlike-regular : (x y : Operand) → pairOf x y .same ≡ false → y .isZero ≡ false
+unlike-regular x y f = go (y .isZero) refl
+  where
+    go : (z : Bool) → y .isZero ≡ z → y .isZero ≡ false
+    go true e = absurd (true≢false (sym (alone-same x y e) ∙ f))
+    go false e = e
+
 -- ---- the tests of the range on the pair
 
 module _ (s : Pair) (k : ℕ) where
-  and-false : (b : Bool) → (b && false) ≡ false
-  and-false true = refl
-  and-false false = refl
-
   pub near-second : s .gap < 64 * k → isFar s k ≡ false
   unfolding isFar
   near-second h = rw (lt-leb (64 * k) (s .gap) h) (and-false (not (eqb (s .second) 0)))
@@ -193,12 +200,9 @@ module _ (o : Mode) (p : ℕ) (P : 0 < p) (x y : Operand) (k : ℕ) (d : Ordered
   unfolding topExponent
   top-is = go (y .isZero) refl
     where
-      largest : (m n : ℕ) → n ≤ m → max m n ≡ m
-      largest m n h = omega arith
-
       go : (z : Bool) → y .isZero ≡ z → cond (x .isZero) (y .exponent) (cond (y .isZero) (x .exponent) (max (x .exponent) (y .exponent))) ≡ t
       go true e = rw (d .regular, e)
-      go false e = rw (d .regular, e) (largest (x .exponent) (y .exponent) (d .order e))
+      go false e = top-ordered x y (d .regular) e (d .order e)
 
   pub flat : t - t < c
   flat = go t
@@ -406,7 +410,7 @@ module _ (o : Mode) (p : ℕ) (P : 0 < p) (x y : Operand) (k : ℕ) (d : Ordered
       unread-first = sym (left-is t k x (d .regular)) ∙ left-first
 
       pub none-read : Y ≡ 0
-      none-read = read-none k gap (y .limbs) (d .second .limb) far
+      none-read = read-early gap (y .limbs) (d .second .limb) k far
 
       pub row-beyond : rowOf q k ≡ rowFar (q .same) u f
       row-beyond = row-far q k second-some (rw (pair-gap x y e) far) ∙ (let i = pair-first x y in let j = pair-gap x y e in cc)
@@ -467,10 +471,6 @@ module _ (o : Mode) (p : ℕ) (P : 0 < p) (x y : Operand) (k : ℕ) (d : Ordered
           where
             less : (n : ℕ) → n - 0 ≡ n
             less n = omega arith
-
-            or-false : (b : Bool) → (b || false) ≡ b
-            or-false true = refl
-            or-false false = refl
 
       -- the hole
       pub in-hole : u ≡ 0 → InHole x y k

@@ -7,13 +7,14 @@ use native.Mathlib.Omega.{arith}
 use lib.ListN.{length, getD}
 use lib.Dec.{leb}
 use borrow.Author.Tests.{leb-true, le-leb, eqb-true, eq-eqb}
+use Rattle.limb.proofs.Tests.{both-true}
 use Rattle.limb.specs.Value.{Below}
 use Rattle.numbers.specs.Limits.{leastPrecision, mostPrecision, bias, leastExponent, mostExponent, limbsFor}
 use Rattle.numbers.specs.Operand.{Operand, spareBits, WellFormed}
 use Rattle.numbers.proofs.Limits.{two-digits, limbs-hold}
 use Rattle.checks.specs.Check.{accepted, modeHolds, precisionHolds, lengthHolds, exponentHolds, topBitHolds, spareBitsHold, formHolds, pairRefusal, singleRefusal, comparedRefusal, convertedRefusal, aloneRefusal}
 use Rattle.checks.specs.Passes.{TargetPasses, Passes}
-use Rattle.checks.proofs.Tables.{accepted-all, unrefused-accepted, both}
+use Rattle.checks.proofs.Tables.{accepted-all, unrefused-accepted}
 use Rattle.checks.proofs.Passing.{pair-passes, single-passes, compared-passes, converted-passes, alone-passes}
 use Rattle.checks.proofs.Tests.{spare-lt}
 use Rattle.checks.proofs.Form.{top-bit-lead, lead-top-bit, spare-low}
@@ -28,7 +29,7 @@ range-mode mode h = le-leb mode 3 h
 
 pub precision-range : (p : ℕ) → precisionHolds p ≡ true → (leastPrecision ≤ p) × (p ≤ mostPrecision)
 unfolding precisionHolds
-precision-range p h = let b = both _ _ h in (leb-true leastPrecision p (b .0), leb-true p mostPrecision (b .1))
+precision-range p h = let b = both-true _ _ h in (leb-true leastPrecision p (b .0), leb-true p mostPrecision (b .1))
 
 pub range-precision : (p : ℕ) → leastPrecision ≤ p → p ≤ mostPrecision → precisionHolds p ≡ true
 unfolding precisionHolds
@@ -52,12 +53,12 @@ module _ (x : Operand) where
 
   regular-exponent : x .isZero ≡ false → exponentHolds x ≡ true → (leastExponent ≤ x .exponent) × (x .exponent ≤ mostExponent)
   unfolding exponentHolds
-  regular-exponent z h = let b = both (leb leastExponent (x .exponent)) (leb (x .exponent) mostExponent) (rw z at h) in (leb-true leastExponent (x .exponent) (b .0), leb-true (x .exponent) mostExponent (b .1))
+  regular-exponent z h = let b = both-true (leb leastExponent (x .exponent)) (leb (x .exponent) mostExponent) (rw z at h) in (leb-true leastExponent (x .exponent) (b .0), leb-true (x .exponent) mostExponent (b .1))
 
   regular-form : x .isZero ≡ false → formHolds x ≡ true → (2 ^ 63 ≤ getD (x .limbs) (length (x .limbs) - 1) 0) × (getD (x .limbs) 0 0 % 2 ^ spareBits (x .precision) ≡ 0)
   unfolding formHolds topBitHolds spareBitsHold
   regular-form z h =
-      let b = both (topBitHolds (x .limbs)) (spareBitsHold (x .precision) (x .limbs)) (rw z at h) in
+      let b = both-true (topBitHolds (x .limbs)) (spareBitsHold (x .precision) (x .limbs)) (rw z at h) in
       (leb-true (2 ^ 63) (getD (x .limbs) (length (x .limbs) - 1) 0) (b .0), eqb-true (getD (x .limbs) 0 0 % 2 ^ spareBits (x .precision)) 0 (b .1))
 
   pub passes-well-formed : Below (2 ^ 64) (x .limbs) → Passes x → WellFormed x

@@ -7,6 +7,7 @@ use native.Mathlib.Omega.{arith}
 use lib.Dec.{eqb}
 use lib.ListN.{length, getD}
 use borrow.Author.Tests.{leb-true, le-leb, eqb-true}
+use Rattle.limb.proofs.Tests.{both-true}
 use Rattle.numbers.specs.Limits.{leastPrecision, limbsFor}
 use Rattle.numbers.specs.Operand.{Operand}
 use Rattle.checks.specs.declared.Number.{Number}
@@ -14,7 +15,7 @@ use Rattle.checks.specs.declared.Refusal.{Refusal}
 use Rattle.checks.specs.Number.{isZeroKind, operandOf}
 use Rattle.checks.specs.Check.{accepted, modeHolds, precisionHolds, lengthHolds, exponentHolds, topBitHolds, spareBitsHold, formHolds, pairRefusal, singleRefusal, comparedRefusal, convertedRefusal, aloneRefusal}
 use Rattle.checks.specs.Passes.{TargetPasses, Passes}
-use Rattle.checks.proofs.Tables.{all-accepted, both}
+use Rattle.checks.proofs.Tables.{all-accepted}
 
 pub pair-passes : (mode : ℕ) (x y : Operand) (p n : ℕ) → modeHolds mode ≡ true → Passes x → Passes y → TargetPasses p n → pairRefusal mode x y p n ≡ accepted
 unfolding pairRefusal
@@ -48,7 +49,7 @@ limbs-hold p l b h e t = simp (le-leb (2 ^ 63) (getD l (length l - 1) 0) h, sym 
 
 pub some-limb : (p n : ℕ) → TargetPasses p n → 0 < n
 unfolding precisionHolds lengthHolds leastPrecision limbsFor
-some-limb p n t = let least = leb-true 2 p (both _ _ (t .precision) .0) in let count = eqb-true n ((p + 63) / 64) (t .limbs) in omega arith
+some-limb p n t = let least = leb-true 2 p (both-true _ _ (t .precision) .0) in let count = eqb-true n ((p + 63) / 64) (t .limbs) in omega arith
 
 module _ (x : Number) (l : List ℕ) (t : TargetPasses (x .precision) (length l)) (e : exponentHolds (operandOf x []) ≡ true) where
   pub zero-passes : isZeroKind (x .kind) ≡ true → Passes (operandOf x l)

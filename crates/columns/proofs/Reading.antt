@@ -3,20 +3,17 @@ use mathlib.Core.Path.{_≡_, refl, sym, ap, _∙_}
 use mathlib.Core.List.{List, _∷_}
 use Prim.Native.Nat.{ℕ, zero, suc, _+_, _-_, _*_, _/_, _%_, _^_, _≤_, _<_}
 use native.Mathlib.Decide.{decLe}
-use native.Mathlib.Nat.{div-eq-of-lt, div-lt-iff-lt-mul, div-div-eq-div-mul, div-add-mod', mul-div-mul-right, mul-assoc, zero-mod, zero-mul, mul-one, pow-zero, pow-succ'}
+use native.Mathlib.Nat.{div-lt-iff-lt-mul, div-div-eq-div-mul, div-add-mod', mul-div-mul-right, mul-assoc, zero-mod, zero-mul, mul-one, pow-zero, pow-succ'}
 use native.Mathlib.Omega.{arith}
 use lib.ListN.{length, getD, List·getD-eq-default}
 use lib.Bits.{bitOr, or-comm, or-zero-r}
 use lib.Pow.{pow-add, pow-pos, pow-mono, shl-lt}
 use borrow.Author.Tests.{lt-ltb, le-ltb}
+use Rattle.limb.proofs.Powers.{moved-twice}
 use Rattle.limb.specs.Value.{valueOf, valueIn, Below}
 use Rattle.limb.proofs.Value.{value-lt, base-pow}
 use Rattle.shifts.proofs.Windows.{whole, across}
 use Rattle.columns.specs.Column.{readTo, columnOf, limbBelow}
-
--- moved up by m and n bits at once
-moved-twice : (x m n : ℕ) → x * 2 ^ (m + n) ≡ x * 2 ^ m * 2 ^ n
-moved-twice x m n = ap (λ (p : ℕ). x * p) (pow-add 2 m n) ∙ sym (mul-assoc x (2 ^ m) (2 ^ n))
 
 value-small : (l : List ℕ) → Below (2 ^ 64) l → valueOf l < 2 ^ (64 * length l)
 value-small l h = rw (base-pow (length l)) at (value-lt (2 ^ 64) l h)
@@ -41,23 +38,24 @@ module _ (gap : ℕ) (l : List ℕ) where
   column-lt k = omega arith
 
   module _ (h : Below (2 ^ 64) l) where
-    -- above the first digit nothing is read
-    pub read-early : (k : ℕ) → 64 * k ≤ gap → readTo k gap l ≡ 0
+    -- what begins `gap` digits below the top has so many fewer
+    pub read-small : (k : ℕ) → readTo k gap l < 2 ^ (64 * k - gap)
     unfolding readTo
-    read-early k e =
-        let fits : valueOf l * 2 ^ (64 * k) < 2 ^ (64 * length l + 64 * k) = shl-lt (64 * length l) (64 * k) (value-small l h) in
-        div-eq-of-lt (omega (arith, fits, pow-mono {i = 64 * length l + 64 * k} {j = 64 * length l + gap} (omega arith)))
-
-    pub read-none : readTo 0 gap l ≡ 0
-    read-none = read-early 0 (omega arith)
+    read-small k =
+        let n : ℕ = 64 * length l in
+        let fits : valueOf l * 2 ^ (64 * k) < 2 ^ (n + 64 * k) = shl-lt n (64 * k) (value-small l h) in
+        let room : 2 ^ (n + 64 * k) ≤ 2 ^ (64 * k - gap + (n + gap)) = pow-mono {i = n + 64 * k} {j = 64 * k - gap + (n + gap)} (omega arith) in
+        div-lt-iff-lt-mul (pow-pos (n + gap)) .1 (omega (arith, pow-add 2 (64 * k - gap) (n + gap)))
 
     pub read-lt : (k : ℕ) → readTo k gap l < 2 ^ (64 * k)
-    unfolding readTo
-    read-lt k =
-        let P : ℕ = 2 ^ (64 * length l + gap) in
-        let fits : valueOf l * 2 ^ (64 * k) < 2 ^ (64 * length l + 64 * k) = shl-lt (64 * length l) (64 * k) (value-small l h) in
-        let room : 2 ^ (64 * length l + 64 * k) ≤ 2 ^ (64 * k + (64 * length l + gap)) = pow-mono {i = 64 * length l + 64 * k} {j = 64 * k + (64 * length l + gap)} (omega arith) in
-        div-lt-iff-lt-mul (pow-pos (64 * length l + gap)) .1 (omega (arith, pow-add 2 (64 * k) (64 * length l + gap)))
+    read-lt k = omega (arith, read-small k, pow-mono {i = 64 * k - gap} {j = 64 * k} (omega arith))
+
+    -- above the first digit nothing is read
+    pub read-early : (k : ℕ) → 64 * k ≤ gap → readTo k gap l ≡ 0
+    read-early k e =
+        let none : 64 * k - gap ≡ 0 = omega arith in
+        let one : readTo k gap l < 2 ^ 0 = rw none at (read-small k) in
+        omega arith
 
 -- fewer columns are the first of more
 pub read-fewer : (k j gap : ℕ) (l : List ℕ) → readTo (k + j) gap l / 2 ^ (64 * j) ≡ readTo k gap l

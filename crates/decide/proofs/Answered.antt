@@ -8,6 +8,7 @@ use borrow.Author.Tests.{eqb-true, eqb-false, ltb-true}
 use lib.Dec.{eqb}
 use lib.Pow.{pow-pos, pow-add}
 use lib.Ieee.{size}
+use Rattle.limb.proofs.Tests.{both-true}
 use Rattle.rounding.specs.Mode.{Way}
 use Rattle.rounding.specs.Answer.{tooLarge, tooSmall, rounded, digits}
 use Rattle.numbers.specs.Limits.{leastExponent, mostExponent}
@@ -18,7 +19,7 @@ use Rattle.decide.specs.Class.{lean, step, enough, settled}
 use Rattle.decide.specs.Range.{carry, large?, small?, decided}
 use Rattle.decide.specs.Answer.{settledAnswer, decidedAnswer}
 use Rattle.decide.proofs.Lean.{Part}
-use Rattle.decide.proofs.Settled.{Span, Enough, enough-true, enough-le, and-true, halves, chosen-cut, tern-cut}
+use Rattle.decide.proofs.Settled.{Span, Enough, enough-true, enough-le, halves, chosen-cut, tern-cut}
 use Rattle.decide.proofs.Carry.{size-enough, size-quot, size-pow, size-pos, size-suc}
 use Rattle.decide.proofs.Range.{Sides, large-is, small-is, large-answer, small-answer, decided-if}
 
@@ -103,9 +104,9 @@ module _ (w : Way) (p s : ℕ) (P : 0 < p) (g : Bool) (j n : ℕ) (more : Bool) 
 
 -- ---- of the least sum, and so of every one, where the decision holds
 
-settled-enough : (w : Way) (p n : ℕ) (ml : Bool) (i : ℕ) (mg : Bool) → settled w p n ml i mg ≡ true → Enough w p n
+pub settled-enough : (w : Way) (p n : ℕ) (ml : Bool) (i : ℕ) (mg : Bool) → settled w p n ml i mg ≡ true → Enough w p n
 unfolding settled
-settled-enough w p n ml i mg e = enough-true w p n (and-true (enough w p n) _ e .0)
+settled-enough w p n ml i mg e = enough-true w p n (both-true (enough w p n) _ e .0)
 
 pub decided-answer : (w : Way) (p s : ℕ) (P : 0 < p) (g : Bool) (j n : ℕ) (ml half : Bool) (i : ℕ) (mg : Bool) (tail lo hi : ℕ) (sp : Span j n ml i mg lo hi) → Sides s j n half i tail lo hi → decided w p (j + s) n ml half i mg tail ≡ true
     → (m : ℕ) → lo ≤ m → m ≤ hi → rounded w p s g m ≡ decidedAnswer w p (j + s) g n ml half i mg

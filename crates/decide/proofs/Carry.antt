@@ -13,12 +13,12 @@ use lib.Ieee.Digits.{size-lt, size-le, size-reaches}
 use lib.Ieee.Fits.{kept-lt}
 use Rattle.rounding.specs.Mode.{Way}
 use Rattle.rounding.specs.Select.{chosen}
-use Rattle.rounding.proofs.Order.{le-or-lt, size-mono}
-use Rattle.rounding.proofs.Even.{size-is, size-ge}
+use Rattle.rounding.proofs.Order.{le-or-lt, size-mono, zero-or}
+use Rattle.limb.proofs.Sizes.{size-is, size-ge}
 use Rattle.rounding.proofs.Scale.{size-shift}
 use Rattle.decide.specs.Class.{lean, step}
 use Rattle.decide.specs.Range.{bump, carry}
-use Rattle.decide.proofs.Lean.{zero-or, Part}
+use Rattle.decide.proofs.Lean.{Part}
 use Rattle.decide.proofs.Settled.{Enough, enough-le, halves, chosen-cut}
 
 -- ---- q has p digits

@@ -7,6 +7,8 @@ use native.Mathlib.Nat.{add-comm, zero-mul}
 use native.Mathlib.Omega.{arith}
 use borrow.Author.Tests.{ltb-true, ltb-false, lt-ltb, le-ltb}
 use lib.Dec.{ltb}
+use Rattle.rounding.proofs.Units.{scale-first, scale-second}
+use Rattle.depth.proofs.Exchange.{top-exchange, first-some}
 use Rattle.numbers.specs.Operand.{Operand, mantissa, lastWeight, WellFormed}
 use Rattle.rounding.specs.Mode.{Mode}
 use Rattle.rounding.specs.Answer.{Answer}
@@ -15,7 +17,7 @@ use Rattle.depth.specs.Columns.{topExponent, Like}
 use Rattle.depth.specs.Read.{unread}
 use Rattle.depth.specs.Depth.{plus, result, Fixed, Open, Deciding}
 use Rattle.depth.proofs.Columns.{read-of}
-use Rattle.depth.proofs.Place.{top-swap, top-first, top-second, scale-first, scale-second, other-top}
+use Rattle.depth.proofs.Place.{top-first, top-second, other-top}
 use Rattle.depth.proofs.Reach.{end}
 use Rattle.depth.proofs.Amounts.{low-like}
 use Rattle.depth.proofs.EndsDecide.{lx, ly, up, down, like-first, like-second, at, add-is, Alike, own-first, own-second, other-first, other-second, fixed-if, fixed-or}
@@ -186,7 +188,7 @@ module _ (o : Mode) (p : ℕ) (P : 0 < p) (x y : Operand) (g : WellFormed x) (h 
   y-reaches : reaches? t k x ≡ false → Judges (beyond o p y x k t s) Amounts-same least-answer (beyondAnswer o p y x k t s)
   y-reaches f =
       let u = not-reached t k x f in
-      let e = top-swap x y (u .0) in
+      let e = top-exchange x y (first-some x y (u .0)) in
       let v = other-top y x k K (u .0) (rw e at (u .1)) in
       swap neg o p s P (beyond o p y x k t s) (beyondAnswer o p y x k t s) (x .negative) (y .negative) xl xh yl yh (beyond-judges neg o p P y x h g (v .0) (u .0) k t s K (e ∙ v .1) (scale-second x y (v .0)) (scale-first x y (u .0)) (u .1))
 

@@ -7,6 +7,7 @@ use native.Mathlib.Omega.{arith}
 use lib.Dec.{lit≤, lit<}
 use lib.Ieee.{size}
 use lib.Pow.{pow-pos, pow-lt}
+use Rattle.limb.proofs.Value.{one-below}
 use Rattle.limb.specs.Value.{valueIn, Below}
 use Rattle.numbers.specs.Limits.{leastPrecision, mostPrecision, bias, leastExponent, mostExponent, limbsFor}
 use Rattle.numbers.specs.Operand.{spareBits, mantissa, lastWeight, WellFormed}
@@ -28,10 +29,6 @@ use Rattle.decide.proofs.Decision.{depth-decided}
 
 -- ---- their good form
 
-below-one : (m : ℕ) → m < 2 ^ 64 → Below (2 ^ 64) (m ∷ [])
-below-one m h zero = h
-below-one m h (suc i) = pow-pos 64
-
 below-two : (m n : ℕ) → m < 2 ^ 64 → n < 2 ^ 64 → Below (2 ^ 64) (n ∷ m ∷ [])
 below-two m n h l zero = l
 below-two m n h l (suc zero) = h
@@ -43,7 +40,7 @@ short-good = record {
   least = lit≤ tt;
   most = lit≤ tt;
   count = refl;
-  limb = below-one dented (lit< tt);
+  limb = one-below dented (lit< tt);
   zero = λ z. absurd (true≢false (sym z));
   regular = λ z. record { least = lit≤ tt; most = lit≤ tt; lead = lit≤ tt; spare = refl };
 }
@@ -65,7 +62,7 @@ next-good = record {
   least = lit≤ tt;
   most = lit≤ tt;
   count = refl;
-  limb = below-one (2 ^ 63 + 1) (lit< tt);
+  limb = one-below (2 ^ 63 + 1) (lit< tt);
   zero = λ z. absurd (true≢false (sym z));
   regular = λ z. record { least = lit≤ tt; most = lit≤ tt; lead = lit≤ tt; spare = refl };
 }
@@ -76,7 +73,7 @@ half-good e h k = record {
   least = lit≤ tt;
   most = lit≤ tt;
   count = refl;
-  limb = below-one (2 ^ 63) (lit< tt);
+  limb = one-below (2 ^ 63) (lit< tt);
   zero = λ z. absurd (true≢false (sym z));
   regular = λ z. record { least = h; most = k; lead = lit≤ tt; spare = refl };
 }

@@ -1,7 +1,7 @@
 -- The hole, decided by sizes alone.
 use mathlib.Core.Path.{_≡_, refl, sym, ap, _∙_, subst}
 use mathlib.Core.Logic.{_⊎_, inl, inr}
-use mathlib.Core.Bool.{Bool, true, false, not, cond, _&&_, _||_, Bool·beq}
+use mathlib.Core.Bool.{Bool, true, false, not, cond, _&&_, _||_, Bool·beq, and-true, and-false}
 use Prim.Native.Nat.{ℕ, zero, suc, _+_, _-_, _*_, _/_, _%_, _^_, _≤_, _<_, compare, Ordering, Ordering·lt, Ordering·eq, Ordering·gt}
 use native.Mathlib.Nat.{le-trans, le-of-eq, le-antisymm, lt-of-lt-of-le, div-add-mod', mod-lt, pow-succ', div-one, mul-one, mul-pos, suc-mul, mul-le-mul, mul-le-mul-right, mul-lt-mul-of-pos-right}
 use native.Mathlib.Omega.{arith}
@@ -10,13 +10,14 @@ use lib.Dec.{ltb, eqb}
 use lib.Pow.{pow-pos, pow-add}
 use lib.Ieee.{size}
 use lib.Ieee.Digits.{size-lt, size-reaches}
+use Rattle.limb.proofs.Tests.{and-both}
 use Rattle.rounding.specs.Mode.{Mode, way, Way, near, under, over}
 use Rattle.numbers.specs.Limits.{leastExponent, mostExponent}
-use Rattle.rounding.proofs.Order.{le-or-lt, cmp, compare-at, size-mono}
-use Rattle.rounding.proofs.Even.{size-is}
+use Rattle.rounding.proofs.Order.{le-or-lt, cmp, compare-at, size-mono, zero-or}
+use Rattle.limb.proofs.Sizes.{size-is, size-part}
 use Rattle.rounding.proofs.Scale.{size-shift}
-use Rattle.decide.proofs.Settled.{size-part}
-use Rattle.decide.proofs.Lean.{zero-or, lean-exact, lean-rest, lean-more}
+use Rattle.decide.proofs.Settled.{alike-refl}
+use Rattle.decide.proofs.Lean.{lean-exact, lean-rest, lean-more}
 use Rattle.decide.specs.Class.{tie, off, lean, alike, enough, settled}
 use Rattle.decide.specs.Range.{bump, carry, shortLeast, large?, small?, decided}
 use Rattle.decide.specs.Table.{some?, holeSame, holeUnlike, holeSameRow, holeUnlikeRow, holePair, holeBySize, odd?, hole?}
@@ -28,14 +29,6 @@ inner w q u r ml i mg = ltb (r + i) u && alike (lean w q u r ml) (lean w q u (r 
 settled-at : (w : Way) (p n u : ℕ) (ml : Bool) (i : ℕ) (mg : Bool) → 2 ^ (size n - p) ≡ u → settled w p n ml i mg ≡ (enough w p n && inner w (n / u) u (n % u) ml i mg)
 unfolding settled
 settled-at w p n u ml i mg e = ap (λ (v : ℕ). enough w p n && inner w (n / v) v (n % v) ml i mg) e
-
-alike-refl : (a : Ordering) → alike a a ≡ true
-alike-refl Ordering·lt = refl
-alike-refl Ordering·eq = refl
-alike-refl Ordering·gt = refl
-
-both : {a b : Bool} → a ≡ true → b ≡ true → (a && b) ≡ true
-both e f = rw (e, f)
 
 same : {a b c : Ordering} → a ≡ c → b ≡ c → alike a b ≡ true
 same {a} {b} {c} e f = ap (λ (o : Ordering). alike o b) e ∙ ap (alike c) f ∙ alike-refl c
@@ -64,7 +57,7 @@ not-exact up = refl
 -- u is even, and r is odd
 same-directed : {w : Way} → Directed w → (q u r : ℕ) → 0 < r → r < u → inner w q u r false 0 true ≡ true
 same-directed {w} d q u r h k =
-    both (lt-ltb (r + 0) u (omega arith)) (same (lean-rest w q u r h false ∙ off-side d q u r false) (lean-rest w q u (r + 0) (omega arith) true ∙ off-side d q u (r + 0) true))
+    and-both (lt-ltb (r + 0) u (omega arith)) (same (lean-rest w q u r h false ∙ off-side d q u r false) (lean-rest w q u (r + 0) (omega arith) true ∙ off-side d q u (r + 0) true))
 
 same-near-two : (q : ℕ) → inner near q 2 1 false 0 true ≡ odd? q
 unfolding lean off tie
@@ -84,7 +77,7 @@ untied q Ordering·gt n = refl
 same-near-more : (q h r : ℕ) → 0 < r → r < h * 4 → (r * 2 ≡ h * 4 → ⊥) → inner near q (h * 4) r false 0 true ≡ true
 unfolding off
 same-near-more q h r a b n =
-    both (lt-ltb (r + 0) (h * 4) (omega arith))
+    and-both (lt-ltb (r + 0) (h * 4) (omega arith))
     (same (lean-rest near q (h * 4) r a false ∙ untied q (compare (r * 2) (h * 4)) (λ e. n (tied e))) (ap (λ (v : ℕ). lean near q (h * 4) v true) (flat r) ∙ lean-rest near q (h * 4) r a true))
   where
     flat : (r : ℕ) → r + 0 ≡ r
@@ -95,7 +88,7 @@ same-near-more q h r a b n =
 
 -- u is even, and so is r
 unlike-directed : {w : Way} → Directed w → (q u r : ℕ) → r + 1 < u → inner w q u r true 1 false ≡ true
-unlike-directed {w} d q u r k = both (lt-ltb (r + 1) u k) (same (lean-more w q u r ∙ off-side d q u r true) (lean-rest w q u (r + 1) (omega arith) false ∙ off-side d q u (r + 1) false))
+unlike-directed {w} d q u r k = and-both (lt-ltb (r + 1) u k) (same (lean-more w q u r ∙ off-side d q u r true) (lean-rest w q u (r + 1) (omega arith) false ∙ off-side d q u (r + 1) false))
 
 unlike-near-two : (q : ℕ) → inner near q 2 0 true 1 false ≡ eqb (q % 2) 0
 unfolding lean off tie
@@ -107,7 +100,7 @@ unlike-near-two q = go (eqb (q % 2) 0)
 
 unlike-near-more : (q h r : ℕ) → r + 1 < h * 4 → r % 2 ≡ 0 → inner near q (h * 4) r true 1 false ≡ true
 unfolding off tie
-unlike-near-more q h r k e = both (lt-ltb (r + 1) (h * 4) k) (go (le-or-lt (h * 4) (r * 2)))
+unlike-near-more q h r k e = and-both (lt-ltb (r + 1) (h * 4) k) (go (le-or-lt (h * 4) (r * 2)))
   where
     next : lean near q (h * 4) (r + 1) false ≡ tie false q (compare ((r + 1) * 2) (h * 4))
     next = lean-rest near q (h * 4) (r + 1) (omega arith) false
@@ -454,21 +447,21 @@ size-below m f M = ap size (double (m * 2 ^ f)) ∙ size-shift (m * 2 ^ f - 1) 1
             strict : 2 ^ z ≤ m → (m ≡ 2 ^ z → ⊥) → 2 ^ z < m
             strict h n = elim (le-or-lt m (2 ^ z)) [ inl k ↦ absurd (n (le-antisymm k h)) | inr k ↦ k ]
 
+-- two numbers are the same where nothing lies between them
+pub eqb-none : (n c : ℕ) → c ≤ n → eqb n c ≡ not (some? (n - c))
+eqb-none n c h = go (n - c) refl
+  where
+    go : (d : ℕ) → n - c ≡ d → eqb n c ≡ not (some? d)
+    go zero e = eq-eqb n c (omega arith)
+    go (suc d) e = ne-eqb n c (λ f. omega arith)
+
 -- z / 2 is odd only where the two stand next to each other
 odd-shift : (m f : ℕ) → odd? (m * 2 ^ f) ≡ (odd? m && not (some? f))
-odd-shift m zero = ap odd? (mul-one m) ∙ sym (and-one (odd? m))
-  where
-    and-one : (b : Bool) → (b && true) ≡ b
-    and-one true = refl
-    and-one false = refl
-odd-shift m (suc f) = ap (λ (b : Bool). not b) (eq-eqb (m * 2 ^ suc f % 2) 0 (even (m * 2 ^ f) (ap (λ (v : ℕ). m * v) (pow-succ' 2 f)))) ∙ sym (and-zero (odd? m))
+odd-shift m zero = ap odd? (mul-one m) ∙ sym (and-true (odd? m))
+odd-shift m (suc f) = ap (λ (b : Bool). not b) (eq-eqb (m * 2 ^ suc f % 2) 0 (even (m * 2 ^ f) (ap (λ (v : ℕ). m * v) (pow-succ' 2 f)))) ∙ sym (and-false (odd? m))
   where
     even : (y : ℕ) {v : ℕ} → v ≡ m * (2 * 2 ^ f) → v % 2 ≡ 0
     even y e = omega arith
-
-    and-zero : (b : Bool) → (b && false) ≡ false
-    and-zero true = refl
-    and-zero false = refl
 
 pub hole-pair-is : (o : Mode) (p e : ℕ) (a b : Bool) (m f : ℕ) → 0 < p → 2 ≤ m → leastExponent < size m + f + 1 + e → size m + f + 1 + e ≤ mostExponent → holePair o p e a b (m * 2 ^ f * 2) ≡ holeBySize o p a b m f
 unfolding holePair holeBySize

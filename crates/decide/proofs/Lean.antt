@@ -2,15 +2,15 @@
 use mathlib.Core.Path.{_≡_, refl, sym, ap, _∙_, subst}
 use mathlib.Core.Logic.{_⊎_, inl, inr}
 use mathlib.Core.Bool.{Bool, true, false, cond}
-use Prim.Native.Nat.{ℕ, zero, suc, _+_, _*_, _/_, _%_, _≤_, _<_, compare, Ordering, Ordering·lt, Ordering·eq, Ordering·gt}
-use native.Mathlib.Nat.{suc-mul, mul-le-mul-right, div-eq-of-lt-le, div-add-mod'}
+use Prim.Native.Nat.{ℕ, zero, suc, _+_, _*_, _%_, _≤_, _<_, compare, Ordering, Ordering·lt, Ordering·eq, Ordering·gt}
+use native.Mathlib.Nat.{suc-mul, mul-le-mul-right, div-eq-of-lt-le}
 use native.Mathlib.Omega.{arith}
 use borrow.Author.Tests.{ne-eqb}
 use lib.Dec.{eqb}
 use lib.Ieee.{nearest}
 use Rattle.rounding.specs.Mode.{Way, near, under, over}
 use Rattle.rounding.specs.Select.{quotient}
-use Rattle.rounding.proofs.Order.{Cmp, cmp, compare-at}
+use Rattle.rounding.proofs.Order.{Cmp, cmp, compare-at, zero-or, units, remainder}
 use Rattle.decide.specs.Class.{tie, off, lean, step}
 
 -- a is what lies below one unit u: nothing, or something
@@ -34,18 +34,6 @@ pub lean-more : (w : Way) (q u r : ℕ) → lean w q u r true ≡ off w q u r tr
 unfolding lean
 lean-more w q u r = refl
 
--- ---- a number is q units and r
-
-module _ (q u r : ℕ) (lt : r < u) where
-  units : (q * u + r) / u ≡ q
-  units = div-eq-of-lt-le u (omega arith) (omega arith)
-
-  remainder : (q * u + r) % u ≡ r
-  remainder = go ((q * u + r) % u) (ap (λ (z : ℕ). z * u + (q * u + r) % u) (sym units) ∙ div-add-mod' (q * u + r) u)
-    where
-      go : (v : ℕ) → q * u + v ≡ q * u + r → v ≡ r
-      go v e = omega arith
-
 odd-or : (q : ℕ) → (q % 2 ≡ 0) ⊎ (q % 2 ≡ 1)
 odd-or q = go (q % 2) (two q)
   where
@@ -67,10 +55,6 @@ tie-step q Ordering·eq = elim (odd-or q) [
 ]
 
 -- ---- `lean` gives what is selected, and is the sign of selected - exact
-
-pub zero-or : (r : ℕ) → (r ≡ 0) ⊎ (0 < r)
-zero-or zero = inl refl
-zero-or (suc r) = inr (omega arith)
 
 pub quot-lean : (w : Way) (q u r : ℕ) → r < u → quotient w (q * u + r) u ≡ step (lean w q u r false) q
 unfolding quotient off step

@@ -12,8 +12,7 @@ use lib.Ieee.{size}
 use Rattle.rounding.specs.Mode.{Mode, Way, way}
 use Rattle.rounding.specs.Answer.{Answer, zeroOf, rounded, answer}
 use Rattle.numbers.specs.Limits.{leastExponent, mostExponent}
-use Rattle.rounding.proofs.Order.{Cmp, cmp, compare-at, size-mono}
-use Rattle.decide.proofs.Lean.{zero-or}
+use Rattle.rounding.proofs.Order.{Cmp, cmp, compare-at, size-mono, zero-or, sub-mul}
 use Rattle.rounding.proofs.Ends.{plus as positive, minus as negative, nought}
 use Rattle.decide.specs.Class.{settled}
 use Rattle.decide.specs.Range.{decided, orLarge, orSmall}
@@ -23,7 +22,7 @@ use Rattle.decide.proofs.Settled.{Span}
 use Rattle.decide.proofs.Range.{Sides, decided-if, decided-only, only-large, only-small, no-refusal}
 use Rattle.rounding.proofs.Scale.{rounded-shift}
 use Rattle.decide.proofs.Answered.{decided-answer}
-use Rattle.decide.proofs.Rows.{sub-mul, Seen, seen-le, Held, last-none, last-half, same-one, same-both, unlike-unread, unlike-read, sides-same-one, sides-same-both, sides-unlike-unread, sides-unlike-read}
+use Rattle.decide.proofs.Rows.{Seen, seen-le, Held, last-none, last-half, same-one, same-both, unlike-unread, unlike-read, sides-same-one, sides-same-both, sides-unlike-unread, sides-unlike-read}
 use Rattle.decide.proofs.RowsFar.{Unseen, unseen-le, far-same, far-unlike, hole-same, hole-unlike, sides-far-same, sides-far-unlike, sides-hole-same, sides-hole-unlike}
 
 -- the test t decides A

@@ -1,7 +1,7 @@
 -- With refusals: the two ends get one answer exactly when `decided` says so.
 use mathlib.Core.Path.{_≡_, refl, sym, ap, _∙_}
 use mathlib.Core.Logic.{_⊎_, inl, inr}
-use mathlib.Core.Bool.{Bool, true, false, cond, _&&_, _||_}
+use mathlib.Core.Bool.{Bool, true, false, cond, _&&_, _||_, or-false}
 use Prim.Native.Nat.{ℕ, suc, _+_, _*_, _^_, _≤_, _<_, compare, Ordering·gt}
 use native.Mathlib.Nat.{le-trans, le-of-eq, le-of-lt, lt-of-lt-of-le, lt-of-le-of-lt, le-antisymm, suc-mul, mul-le-mul-right}
 use native.Mathlib.Omega.{arith}
@@ -319,7 +319,3 @@ module _ (w : Way) (p s : ℕ) (P : 0 < p) (j n : ℕ) (ml half : Bool) (i : ℕ
   pub no-refusal : leastExponent ≤ size (n + i) + (j + s) → size (n + i) + (j + s) ≤ mostExponent → decided w p (j + s) n ml half i mg tail ≡ settled w p n ml i mg
   unfolding decided
   no-refusal h k = other-test one two three (large-settled k) ∙ ap (λ (b : Bool). one || b) (not-small h) ∙ or-false one
-    where
-      or-false : (b : Bool) → (b || false) ≡ b
-      or-false true = refl
-      or-false false = refl

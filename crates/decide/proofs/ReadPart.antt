@@ -7,17 +7,18 @@ use native.Mathlib.Nat.{le-trans, le-of-eq, suc-mul, zero-mul, add-mul, mul-le-m
 use native.Mathlib.Omega.{arith}
 use lib.Pow.{pow-pos, pow-add}
 use lib.Ieee.{size}
+use Rattle.rounding.proofs.Zeros.{amount-zero}
+use Rattle.rounding.proofs.Order.{zero-or}
 use Rattle.numbers.specs.Operand.{Operand, mantissa, lastWeight, WellFormed}
 use Rattle.rounding.specs.Sum.{amount}
 use Rattle.depth.specs.Read.{unread}
-use Rattle.rounding.proofs.Even.{size-is}
+use Rattle.limb.proofs.Sizes.{size-is}
 use Rattle.rounding.proofs.Scale.{size-shift}
 use Rattle.numbers.proofs.Digits.{mantissa-lt, precision-two}
 use Rattle.depth.proofs.Columns.{digits-counted}
 use Rattle.depth.proofs.Reach.{base, digitsAt, end, at-least, at-most}
-use Rattle.depth.proofs.Amounts.{amount-end, amount-nil, like-end}
+use Rattle.depth.proofs.Amounts.{amount-end, like-end}
 use Rattle.depth.proofs.Meet.{at-cut, base-grid, low-grid}
-use Rattle.decide.proofs.Lean.{zero-or}
 use Rattle.decide.proofs.Rows.{Seen, Held}
 use Rattle.decide.proofs.RowsFar.{Unseen}
 
@@ -124,8 +125,8 @@ pub nil-seen : (t k s : ℕ) (x : Operand) → WellFormed x → x .isZero ≡ tr
 nil-seen t k s x g r j = record {
   l = j;
   cut = omega arith;
-  low = amount-nil s (end t k x false) (ended false) ∙ sym (zero-mul (2 ^ j));
-  high = ap (λ (z : ℕ). z + 2 ^ j) (amount-nil s (end t k x true) (ended true)) ∙ omega arith;
+  low = amount-zero s (end t k x false) (ended false) ∙ sym (zero-mul (2 ^ j));
+  high = ap (λ (z : ℕ). z + 2 ^ j) (amount-zero s (end t k x true) (ended true)) ∙ omega arith;
 }
   where
     ended : (b : Bool) → end t k x b .isZero ≡ true

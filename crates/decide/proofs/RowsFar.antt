@@ -3,17 +3,16 @@ use mathlib.Core.Path.{_≡_, refl, sym, ap, _∙_}
 use mathlib.Core.Logic.{inl, inr}
 use mathlib.Core.Bool.{Bool, true, false, not, cond, _||_}
 use Prim.Native.Nat.{ℕ, zero, suc, _+_, _-_, _*_, _^_, _≤_, _<_}
-use native.Mathlib.Nat.{le-trans, le-of-eq, pow-succ'}
+use native.Mathlib.Nat.{le-trans}
 use native.Mathlib.Omega.{arith}
 use borrow.Author.Tests.{ne-eqb, eq-eqb, ltb-true, ltb-false}
 use lib.Dec.{ltb, eqb}
 use lib.Pow.{pow-pos, pow-mono}
 use Rattle.rounding.proofs.Order.{size-mono}
-use Rattle.decide.proofs.Lean.{Part}
 use Rattle.decide.specs.Table.{some?}
 use Rattle.decide.proofs.Settled.{Span}
 use Rattle.decide.proofs.Range.{Sides}
-use Rattle.decide.proofs.Rows.{Seen, Held, whole, last-one, last-half, last-quarter}
+use Rattle.decide.proofs.Rows.{Seen, Held, more, whole, last-one, last-half, last-quarter, half-pow, last-two}
 
 -- nothing is read: the first digit 2 ^ g at least, and all ones down to the last digit 2 ^ l at most
 pub record Unseen (g least most : ℕ) : Type 0 where
@@ -22,17 +21,8 @@ pub record Unseen (g least most : ℕ) : Type 0 where
   pub low : least ≡ 2 ^ g
   pub high : most + 2 ^ l ≡ 2 ^ g * 2
 
-half-pow : (l g : ℕ) → l < g → 2 ^ l * 2 ≤ 2 ^ g
-half-pow l g h = le-trans (le-of-eq (twice (2 ^ l) ∙ sym (pow-succ' 2 l))) (pow-mono h)
-  where
-    twice : (a : ℕ) → a * 2 ≡ 2 * a
-    twice a = omega arith
-
 pub unseen-le : {g least most : ℕ} → Unseen g least most → least ≤ most
 unseen-le {g} d = let k = half-pow (d .l) g (d .two) in omega (arith, d .low, d .high)
-
-more : (j s : ℕ) {a b : ℕ} → a ≤ b → a + (j + s) ≤ b + (j + s)
-more j s h = omega arith
 
 module _ (s j x u xl xh g f yl yh : ℕ) (p : Seen j x (suc u) xl xh) (q : Unseen g yl yh) (e : g + suc f ≡ j) where
   abbrev C : ℕ
@@ -115,7 +105,7 @@ module _ (s j x u xl xh g f yl yh : ℕ) (p : Seen j x (suc u) xl xh) (q : Unsee
         least = omega arith;
         most = omega arith;
         part-least = (omega arith, omega arith);
-        part-most = part u f (p .cut) e;
+        part-most = last-two (p .l) g j u f (p .cut) e;
         carry = omega arith;
         apart = omega arith;
         wide = inr (inl refl);
@@ -126,20 +116,6 @@ module _ (s j x u xl xh g f yl yh : ℕ) (p : Seen j x (suc u) xl xh) (q : Unsee
 
       gap : (n : ℕ) → x ≡ n + 1 → x * C ≡ n * C + C
       gap n e = ap (λ (z : ℕ). z * C) e ∙ omega arith
-
-      some : (C L M : ℕ) → L * 2 ≤ C → M * 4 ≤ C → 0 < L → 0 < M → (0 < C - (L + M)) × (C - (L + M) < C)
-      some C L M h k l m = (omega arith, omega arith)
-
-      more-than : (C L M : ℕ) → L * 4 ≤ C → M * 2 ≤ C → 0 < L → 0 < M → (0 < C - (L + M)) × (C - (L + M) < C)
-      more-than C L M h k l m = (omega arith, omega arith)
-
-      none : (C L M : ℕ) → L * 2 ≡ C → M * 2 ≡ C → C - (L + M) ≡ 0
-      none C L M h k = omega arith
-
-      part : (u f : ℕ) → p .l + suc u ≡ j → g + suc f ≡ j → Part (some? u || some? f) C (C - (L + G))
-      part zero zero m n = none C L G (last-one (p .l) j m) (last-one g j n)
-      part zero (suc f) m n = some C L G (last-half (p .l) 0 j m) (last-quarter g f j n) (pow-pos (p .l)) (pow-pos g)
-      part (suc u) f m n = more-than C L G (last-quarter (p .l) u j m) (last-half g f j n) (pow-pos (p .l)) (pow-pos g)
 
   pub sides-far-same : 0 < x → Held s j x → (i tail : ℕ) → Sides s j x (not (some? f)) i tail (xl + yl) (xh + yh)
   sides-far-same h r i tail =

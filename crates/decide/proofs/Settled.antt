@@ -11,13 +11,15 @@ use lib.Pow.{pow-pos, pow-mono, pow-add}
 use lib.Ieee.{size}
 use lib.Ieee.Digits.{size-lt, size-le}
 use lib.Ieee.Fits.{kept-lt}
+use Rattle.limb.proofs.Sizes.{size-part}
+use Rattle.limb.proofs.Tests.{both-true}
 use Rattle.rounding.specs.Mode.{Way, near, under, over}
 use Rattle.rounding.specs.Select.{quotient, unit, chosen, onGrid}
 use Rattle.rounding.proofs.Selection.{Rep, full, chosen-mono}
-use Rattle.rounding.proofs.Order.{le-or-lt, Cmp, cmp, compare-at, size-mono}
-use Rattle.rounding.proofs.Scale.{exact, size-shift}
+use Rattle.rounding.proofs.Order.{le-or-lt, Cmp, cmp, compare-at, size-mono, zero-or}
+use Rattle.rounding.proofs.Scale.{exact}
 use Rattle.decide.specs.Class.{tie, off, lean, step, alike, enough, settled}
-use Rattle.decide.proofs.Lean.{zero-or, Part, Halves, lean-exact, lean-rest, lean-scale, quot-lean, tern-lean}
+use Rattle.decide.proofs.Lean.{Part, Halves, lean-exact, lean-rest, lean-scale, quot-lean, tern-lean}
 
 -- selected alike, with the same ternary value
 pub record Alike (w : Way) (p lo hi : ℕ) : Type 0 where
@@ -29,18 +31,6 @@ pub record Alike (w : Way) (p lo hi : ℕ) : Type 0 where
 pub part-lt : (more : Bool) (C a : ℕ) → 0 < C → Part more C a → a < C
 part-lt true C a pos h = h .1
 part-lt false C a pos h = omega arith
-
-pub size-part : (m j a : ℕ) → 0 < m → a < 2 ^ j → size (m * 2 ^ j + a) ≡ size m + j
-size-part m j a M lt =
-    le-antisymm
-    (size-le (m * 2 ^ j + a) (size m + j) (below (le-trans (mul-le-mul-right (2 ^ j) (size-lt m)) (le-of-eq (sym (pow-add 2 (size m) j))))))
-    (le-trans (le-of-eq (sym (size-shift m j M))) (size-mono (m * 2 ^ j) (m * 2 ^ j + a) (more (m * 2 ^ j) a)))
-  where
-    below : {n : ℕ} → suc m * 2 ^ j ≤ n → m * 2 ^ j + a < n
-    below h = omega (arith, suc-mul m (2 ^ j))
-
-    more : (a b : ℕ) → a ≤ a + b
-    more a b = omega arith
 
 pub unit-part : (p m j a : ℕ) → 0 < m → a < 2 ^ j → p ≤ size m → unit p (m * 2 ^ j + a) ≡ 2 ^ (size m - p) * 2 ^ j
 unfolding unit
@@ -119,10 +109,6 @@ pub record Span (j n : ℕ) (ml : Bool) (i : ℕ) (mg : Bool) (lo hi : ℕ) : Ty
   pub apart : lo < hi
   pub wide : Wide (2 ^ j) n ml i lo hi
 
-pub and-true : (a b : Bool) → (a && b) ≡ true → (a ≡ true) × (b ≡ true)
-and-true true b e = (refl, e)
-and-true false b e = absurd (let z : _≡_ {A = ℕ} 0 1 = cc in omega arith)
-
 alike-eq : (a b : Ordering) → alike a b ≡ true → a ≡ b
 alike-eq Ordering·lt Ordering·lt e = refl
 alike-eq Ordering·eq Ordering·eq e = refl
@@ -134,7 +120,7 @@ alike-eq Ordering·eq Ordering·gt e = cc
 alike-eq Ordering·gt Ordering·lt e = cc
 alike-eq Ordering·gt Ordering·eq e = cc
 
-alike-refl : (a : Ordering) → alike a a ≡ true
+pub alike-refl : (a : Ordering) → alike a a ≡ true
 alike-refl Ordering·lt = refl
 alike-refl Ordering·eq = refl
 alike-refl Ordering·gt = refl
@@ -150,6 +136,12 @@ unfolding enough
 enough-true near p n e = ltb-true p (size n) e
 enough-true under p n e = leb-true p (size n) e
 enough-true over p n e = leb-true p (size n) e
+
+pub enough-longer : (w : Way) (p n : ℕ) → p < size n → enough w p n ≡ true
+unfolding enough
+enough-longer near p n h = lt-ltb p (size n) h
+enough-longer under p n h = le-leb p (size n) (omega arith)
+enough-longer over p n h = le-leb p (size n) (omega arith)
 
 pub enough-or : (w : Way) (p n : ℕ) → (Enough w p n × (enough w p n ≡ true)) ⊎ (Enough w p n → ⊥)
 unfolding enough
@@ -257,8 +249,8 @@ module _ (w : Way) (p : ℕ) (P : 0 < p) (j n : ℕ) (ml : Bool) (i : ℕ) (mg :
   pub settled-if : settled w p n ml i mg ≡ true → Alike w p lo hi
   unfolding settled
   settled-if e =
-      let a = and-true (enough w p n) _ e in
-      let b = and-true (ltb (r + i) u) _ (a .1) in
+      let a = both-true (enough w p n) _ e in
+      let b = both-true (ltb (r + i) u) _ (a .1) in
       alike-if (enough-true w p n (a .0)) (ltb-true (r + i) u (b .0)) (alike-eq _ _ (b .1))
 
   -- ---- else a p-digit number, or under nearest the middle of two, lies between

@@ -13,13 +13,13 @@ use lib.Ieee.Digits.{size-lt, size-le}
 use Rattle.rounding.specs.Mode.{Way, near, under, over}
 use Rattle.rounding.specs.Select.{unit, chosen}
 use Rattle.rounding.proofs.Selection.{Rep, full, chosen-mono, under-le}
-use Rattle.rounding.proofs.Order.{le-or-lt, compare-at, size-mono}
-use Rattle.rounding.proofs.Even.{size-is}
+use Rattle.rounding.proofs.Order.{le-or-lt, compare-at, size-mono, zero-or}
+use Rattle.limb.proofs.Sizes.{size-is, size-part}
 use Rattle.rounding.proofs.Scale.{exact, size-shift, chosen-shift}
 use Rattle.decide.specs.Class.{tie, off, lean, step}
 use Rattle.decide.specs.Range.{bump, shortLeast, shortMost}
-use Rattle.decide.proofs.Lean.{zero-or, lean-exact, lean-rest}
-use Rattle.decide.proofs.Settled.{Enough, size-part, unit-part, chosen-at}
+use Rattle.decide.proofs.Lean.{lean-exact, lean-rest}
+use Rattle.decide.proofs.Settled.{Enough, unit-part, chosen-at}
 use Rattle.decide.proofs.Carry.{size-bump, size-pow}
 
 -- all ones, more than p of them, go up to the next power of two, except toward zero

@@ -2,12 +2,13 @@
 use mathlib.Core.Path.{_≡_, _∙_, subst}
 use mathlib.Core.Bool.{false, _&&_}
 use Prim.Native.Nat.{ℕ, _+_, _*_, _≤_, _<_}
+use Rattle.depth.proofs.Exchange.{fixed-exchange, first-some}
 use Rattle.numbers.specs.Operand.{Operand, WellFormed}
 use Rattle.rounding.specs.Mode.{Mode}
 use Rattle.depth.specs.Columns.{topExponent, Like}
 use Rattle.depth.specs.Read.{unread}
 use Rattle.depth.specs.Depth.{Operation, result, Fixed}
-use Rattle.depth.proofs.Place.{other-top, fixed-swap}
+use Rattle.depth.proofs.Place.{other-top}
 use Rattle.depth.proofs.Subtract.{addend, addend-well-formed, addend-exponent, addend-zero, result-is, top-is, like-sum, like-second-sum, fixed-result, fixed-sum}
 use Rattle.depth.proofs.Theorems.{unread-addend}
 use Rattle.decide.specs.Decide.{reaches?, leftOver, decideAt}
@@ -71,8 +72,8 @@ module _ (f : Operation) (o : Mode) (p : ℕ) (P : 0 < p) (x y : Operand) (g : W
   pub hole-verdict-above : (j k : ℕ) → 1 ≤ j → 1 ≤ k → InHole y x j → InHole y x k → Fixed f o p x y j → Fixed f o p x y k
   hole-verdict-above j k J K a b u =
       let r = other-top y x j J (a .regular) (a .unseen) .0 in
-      fixed-result f o p x y k (fixed-swap o p x (addend f y) k (a .regular)
-      (hole-same o p (addend f y) x P second g j k J K (hole-addend j a) (hole-addend k b) (fixed-swap o p (addend f y) x j (addend-zero f y ∙ r) (fixed-sum f o p x y j u))))
+      fixed-result f o p x y k (fixed-exchange o p P x (addend f y) (first-some x (addend f y) (a .regular)) k
+      (hole-same o p (addend f y) x P second g j k J K (hole-addend j a) (hole-addend k b) (fixed-exchange o p P (addend f y) x (first-some (addend f y) x (addend-zero f y ∙ r)) j (fixed-sum f o p x y j u))))
     where
       top : topExponent (addend f y) x ≡ topExponent y x
       top = unfold topExponent in let c = addend-zero f y in let d = addend-exponent f y in cc

@@ -4,6 +4,7 @@ use mathlib.Core.Bool.{Bool, true, false}
 use Prim.Native.Nat.{ℕ, _+_, _-_, _*_, _/_, _^_, _≤_}
 use native.Mathlib.Nat.{div-one}
 use native.Mathlib.Omega.{arith}
+use Rattle.rounding.proofs.Zeros.{amount-zero, amount-is}
 use Rattle.numbers.specs.Operand.{Operand, mantissa, lastWeight, WellFormed}
 use Rattle.rounding.specs.Mode.{Mode}
 use Rattle.rounding.specs.Sum.{amount, share, scale}
@@ -12,7 +13,7 @@ use Rattle.depth.specs.Read.{unread}
 use Rattle.depth.specs.Depth.{plus, result, Fixed}
 use Rattle.depth.proofs.Columns.{read-of}
 use Rattle.depth.proofs.Place.{top-first, top-second}
-use Rattle.depth.proofs.Amounts.{amount-nil, amount-is, low-like, like-self}
+use Rattle.depth.proofs.Amounts.{low-like, like-self}
 use Rattle.depth.proofs.EndsDecide.{add-is}
 
 pub all-read : (x : Operand) (t k : ℕ) → x .precision + (t - x .exponent) ≤ 64 * k → unread t k x ≡ 0
@@ -30,7 +31,7 @@ module _ (t k s : ℕ) (x z : Operand) (g : WellFormed x) (top : x .isZero ≡ f
   amount-same = go (x .isZero) refl
     where
       go : (b : Bool) → x .isZero ≡ b → amount s z ≡ amount s x
-      go true r = amount-nil s z (l .isZero ∙ r) ∙ sym (amount-nil s x r)
+      go true r = amount-zero s z (l .isZero ∙ r) ∙ sym (amount-zero s x r)
       go false r = let a = mantissa-same r in let b = low-like t k x z l in amount-is s z (l .isZero ∙ r) ∙ ap (λ (v : ℕ). v * 2 ^ (lastWeight z - s)) a ∙ ap (λ (v : ℕ). mantissa x * 2 ^ (v - s)) b ∙ sym (amount-is s x r)
 
   share-same : (b : Bool) → share b s z ≡ share b s x

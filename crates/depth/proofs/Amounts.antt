@@ -3,6 +3,7 @@ use mathlib.Core.Path.{_≡_, refl, sym, ap, _∙_}
 use mathlib.Core.Bool.{Bool, true, false, not}
 use Prim.Native.Nat.{ℕ, _-_, _*_, _/_, _^_, _≤_, zero-le}
 use native.Mathlib.Nat.{le-trans, le-of-eq, mul-le-mul-right}
+use Rattle.rounding.proofs.Zeros.{amount-zero, amount-is}
 use Rattle.numbers.specs.Operand.{Operand, mantissa, lastWeight, WellFormed}
 use Rattle.rounding.specs.Sum.{amount, share}
 use Rattle.depth.specs.Columns.{Agree, Like}
@@ -10,14 +11,6 @@ use Rattle.depth.specs.Read.{unread}
 use Rattle.numbers.proofs.Digits.{put, put-mantissa, put-well-formed}
 use Rattle.depth.proofs.Columns.{like-by}
 use Rattle.depth.proofs.Reach.{digitsAt, end, at-least, at-most, read-at, between-ends}
-
-pub amount-nil : (s : ℕ) (z : Operand) → z .isZero ≡ true → amount s z ≡ 0
-unfolding amount
-amount-nil s z e = rw e
-
-pub amount-is : (s : ℕ) (z : Operand) → z .isZero ≡ false → amount s z ≡ mantissa z * 2 ^ (lastWeight z - s)
-unfolding amount
-amount-is s z e = rw e
 
 end-nil : (t k : ℕ) (x : Operand) (b : Bool) → x .isZero ≡ true → end t k x b ≡ x
 unfolding end
@@ -64,7 +57,7 @@ module _ (t k s : ℕ) (x : Operand) (g : WellFormed x) (top : x .isZero ≡ fal
   amounts = go (x .isZero) refl
     where
       go : (c : Bool) → x .isZero ≡ c → (amount s (end t k x false) ≤ amount s z) × (amount s z ≤ amount s (end t k x true))
-      go true e = (le-of-eq (ap (amount s) (end-nil t k x false e) ∙ amount-nil s x e ∙ sym (amount-nil s z (l .isZero ∙ e))), le-trans (le-of-eq (amount-nil s z (l .isZero ∙ e))) zero-le)
+      go true e = (le-of-eq (ap (amount s) (end-nil t k x false e) ∙ amount-zero s x e ∙ sym (amount-zero s z (l .isZero ∙ e))), le-trans (le-of-eq (amount-zero s z (l .isZero ∙ e))) zero-le)
       go false e =
           let m : amount s z ≡ mantissa z * 2 ^ (lastWeight x - s) = amount-is s z (l .isZero ∙ e) ∙ ap (λ (y : ℕ). mantissa z * 2 ^ (y - s)) (low-like t k x z l) in
           let b = between-ends t k x g e (top e) z l in

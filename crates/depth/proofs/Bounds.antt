@@ -6,6 +6,8 @@ use native.Mathlib.Nat.{le-trans, le-of-lt}
 use native.Mathlib.Omega.{arith}
 use borrow.Author.Tests.{leb-true, leb-false}
 use lib.Dec.{leb}
+use Rattle.depth.proofs.Place.{top-ordered}
+use Rattle.depth.proofs.Exchange.{fixed-exchange, first-some}
 use Rattle.numbers.specs.Limits.{mostPrecision}
 use Rattle.numbers.specs.Operand.{Operand, WellFormed}
 use Rattle.numbers.proofs.Limits.{two-digits, precisions-some}
@@ -14,7 +16,6 @@ use Rattle.rounding.specs.Mode.{Mode}
 use Rattle.depth.specs.Columns.{topExponent}
 use Rattle.depth.specs.Depth.{plus, Fixed}
 use Rattle.depth.specs.Bound.{columnsFor, farColumns, boundOf, bound, deepest}
-use Rattle.depth.proofs.Place.{fixed-swap}
 use Rattle.depth.proofs.AllRead.{all-read, read-fixed}
 use Rattle.depth.proofs.Far.{far-fixed}
 
@@ -105,11 +106,7 @@ module _ (o : Mode) (p : ℕ) (P : 0 < p) (x y : Operand) (g : WellFormed x) (h 
   d = x .exponent - y .exponent
 
   top : topExponent x y ≡ x .exponent
-  unfolding topExponent
-  top = rw (r, q) (go (x .exponent) (y .exponent) larger)
-    where
-      go : (a b : ℕ) → b ≤ a → max a b ≡ a
-      go a b h = omega arith
+  top = top-ordered x y r q larger
 
   far : 64 * farColumns p m ≤ d → Fixed plus o p x y (farColumns p m)
   far u = far-fixed o p P x y g h r q (farColumns p m) (far-some p m) (gap (farColumns p m) (x .exponent) (y .exponent) larger u) (far-first p m) (far-target p m)
@@ -193,7 +190,7 @@ module _ (p : ℕ) (x y : Operand) (g : WellFormed x) (h : WellFormed y) where
       both : x .isZero ≡ false → y .isZero ≡ false → (c : Bool) → leb (y .exponent) (x .exponent) ≡ c
           → Fixed plus o p x y (cond c (boundOf p (x .precision) (y .precision) (x .exponent - y .exponent)) (boundOf p (y .precision) (x .precision) (y .exponent - x .exponent)))
       both r q true e = larger-fixed o p P x y g h r q (leb-true _ _ e)
-      both r q false e = fixed-swap o p x y (boundOf p (y .precision) (x .precision) (y .exponent - x .exponent)) r (larger-fixed o p P y x h g q r (le-of-lt (leb-false _ _ e)))
+      both r q false e = fixed-exchange o p P x y (first-some x y r) (boundOf p (y .precision) (x .precision) (y .exponent - x .exponent)) (larger-fixed o p P y x h g q r (le-of-lt (leb-false _ _ e)))
 
       go : (a b : Bool) → x .isZero ≡ a → y .isZero ≡ b
           → Fixed plus o p x y (cond a (columnsFor (y .precision)) (cond b (columnsFor (x .precision)) (cond (leb (y .exponent) (x .exponent)) (boundOf p (x .precision) (y .precision) (x .exponent - y .exponent)) (boundOf p (y .precision) (x .precision) (y .exponent - x .exponent)))))

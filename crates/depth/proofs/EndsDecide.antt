@@ -7,6 +7,8 @@ use native.Mathlib.Decide.{ℕ-discrete}
 use Prim.Native.Nat.{ℕ, _+_, _-_, _≤_, _<_, max, compare, Ordering, Ordering·lt, Ordering·eq, Ordering·gt}
 use native.Mathlib.Nat.{lt-of-lt-of-le, not-suc-le-zero, le-of-eq, add-le-add}
 use native.Mathlib.Omega.{arith}
+use Rattle.rounding.proofs.Units.{scale-first, scale-second}
+use Rattle.rounding.proofs.Zeros.{amount-zero, share-as, share-other}
 use Rattle.numbers.specs.Operand.{Operand, lastWeight, WellFormed}
 use Rattle.rounding.specs.Mode.{Mode, way}
 use Rattle.rounding.specs.Answer.{Answer, zeroOf, Answer-discrete, answer}
@@ -15,9 +17,9 @@ use Rattle.rounding.proofs.Order.{le-or-lt, Cmp, cmp}
 use Rattle.rounding.proofs.Ends.{all-between, plus as positive, minus as negative, nought, regular}
 use Rattle.depth.specs.Columns.{topExponent, Like}
 use Rattle.depth.specs.Depth.{plus, result, Fixed, Open}
-use Rattle.depth.proofs.Place.{top-first, top-second, scale-first, scale-second}
+use Rattle.depth.proofs.Place.{top-first, top-second}
 use Rattle.depth.proofs.Reach.{end}
-use Rattle.depth.proofs.Amounts.{like-self, like-end, amount-end, amount-nil, shares}
+use Rattle.depth.proofs.Amounts.{like-self, like-end, amount-end, shares}
 use Rattle.depth.proofs.Meet.{meet}
 
 -- ---- what is asked of an answer: ans a b is that of the exact value a - b
@@ -29,16 +31,6 @@ pub record Monotone {A : Type 0} (ans : ℕ → ℕ → A) : Type 0 where
   pub decidable : Discrete A
 
 -- ---- the operands of a pair, and what may stand in their place
-
-pub own : (b : Bool) (s : ℕ) (z : Operand) → z .negative ≡ b → share b s z ≡ amount s z
-unfolding share
-own true s z e = rw e
-own false s z e = rw e
-
-pub other : (b : Bool) (s : ℕ) (z : Operand) → z .negative ≡ not b → share b s z ≡ 0
-unfolding share
-other true s z e = rw e
-other false s z e = rw e
 
 module _ (x y : Operand) (g : WellFormed x) (h : WellFormed y) (k : ℕ) (K : 1 ≤ k) where
   abbrev t : ℕ
@@ -115,8 +107,8 @@ module _ (x y : Operand) (g : WellFormed x) (h : WellFormed y) (k : ℕ) (K : 1 
   touch u v = go (x .isZero) (y .isZero) refl refl
     where
       go : (b c : Bool) → x .isZero ≡ b → y .isZero ≡ c → amount s (end t k x false) ≡ amount s (end t k y false)
-      go true c e f = absurd (not-suc-le-zero (lt-of-lt-of-le v (le-of-eq (amount-nil s (end t k x true) (like-first true .isZero ∙ e)))))
-      go false true e f = absurd (not-suc-le-zero (lt-of-lt-of-le u (le-of-eq (amount-nil s (end t k y true) (like-second true .isZero ∙ f)))))
+      go true c e f = absurd (not-suc-le-zero (lt-of-lt-of-le v (le-of-eq (amount-zero s (end t k x true) (like-first true .isZero ∙ e)))))
+      go false true e f = absurd (not-suc-le-zero (lt-of-lt-of-le u (le-of-eq (amount-zero s (end t k y true) (like-second true .isZero ∙ f)))))
       go false false e f = both-touch e f u v
 
   pub record Cancelling : Type 0 where
@@ -128,16 +120,16 @@ module _ (x y : Operand) (g : WellFormed x) (h : WellFormed y) (k : ℕ) (K : 1 
 
   -- what the ends share, by x's sign b and y's sign d
   pub own-first : (b c : Bool) → x .negative ≡ b → share b s (end t k x c) ≡ amount s (end t k x c)
-  own-first b c e = own b s (end t k x c) (like-first c .negative ∙ e)
+  own-first b c e = share-as b s (end t k x c) (like-first c .negative ∙ e)
 
   pub own-second : (b c : Bool) → y .negative ≡ b → share b s (end t k y c) ≡ amount s (end t k y c)
-  own-second b c e = own b s (end t k y c) (like-second c .negative ∙ e)
+  own-second b c e = share-as b s (end t k y c) (like-second c .negative ∙ e)
 
   pub other-first : (b c : Bool) → x .negative ≡ not b → share b s (end t k x c) ≡ 0
-  other-first b c e = other b s (end t k x c) (like-first c .negative ∙ e)
+  other-first b c e = share-other b s (end t k x c) (like-first c .negative ∙ e)
 
   pub other-second : (b c : Bool) → y .negative ≡ not b → share b s (end t k y c) ≡ 0
-  other-second b c e = other b s (end t k y c) (like-second c .negative ∙ e)
+  other-second b c e = share-other b s (end t k y c) (like-second c .negative ∙ e)
 
   pub crosses : up lx ly < down lx ly → down hx hy < up hx hy → Cancelling
   crosses u v = go (x .negative) (y .negative) refl refl

@@ -6,6 +6,7 @@ use native.Mathlib.Omega.{arith}
 use lib.Dec.{ltb}
 use lib.Pow.{pow-pos}
 use lib.Ieee.{size}
+use Rattle.rounding.proofs.Zeros.{share-as, share-other}
 use Rattle.numbers.specs.Operand.{Operand, lastWeight, WellFormed}
 use Rattle.rounding.specs.Mode.{Mode, Way, way}
 use Rattle.rounding.specs.Sum.{amount, share, scale, zeroSign, add}
@@ -23,7 +24,7 @@ use Rattle.depth.proofs.Place.{top-first, top-second}
 use Rattle.depth.proofs.Reach.{end, digitsAt}
 use Rattle.depth.proofs.Amounts.{like-end, like-self, amount-end}
 use Rattle.depth.proofs.Another.{ends-meet}
-use Rattle.depth.proofs.EndsDecide.{add-is, own, other}
+use Rattle.depth.proofs.EndsDecide.{add-is}
 
 -- ---- an exact answer is the value
 
@@ -93,8 +94,8 @@ module _ (t k s : ℕ) (x : Operand) (g : WellFormed x) (r : x .isZero ≡ false
       l b = like-end t k x g (λ e. top) b .negative
 
       go : (c : Bool) → x .negative ≡ c → amount s (end t k x false) ≡ amount s (end t k x true)
-      go false r = omega (arith, own false s (end t k x false) (l false ∙ r), own false s (end t k x true) (l true ∙ r), other true s (end t k x false) (l false ∙ r), other true s (end t k x true) (l true ∙ r))
-      go true r = omega (arith, own true s (end t k x false) (l false ∙ r), own true s (end t k x true) (l true ∙ r), other false s (end t k x false) (l false ∙ r), other false s (end t k x true) (l true ∙ r))
+      go false r = omega (arith, share-as false s (end t k x false) (l false ∙ r), share-as false s (end t k x true) (l true ∙ r), share-other true s (end t k x false) (l false ∙ r), share-other true s (end t k x true) (l true ∙ r))
+      go true r = omega (arith, share-as true s (end t k x false) (l false ∙ r), share-as true s (end t k x true) (l true ∙ r), share-other false s (end t k x false) (l false ∙ r), share-other false s (end t k x true) (l true ∙ r))
 
   read-whole : unread t k x ≡ 0
   read-whole = ends-meet t k x g (mul-one-one (digitsAt t k x false) (digitsAt t k x true) (2 ^ (lastWeight x - s)) (pow-pos (lastWeight x - s)) (sym (amount-end t k s x g top false r) ∙ amounts ∙ amount-end t k s x g top true r))

@@ -1,10 +1,11 @@
 -- Where y begins k columns below x or further, and x and p + 2 digits fit in k columns, k columns fix the answer.
 use mathlib.Core.Path.{_≡_, refl, sym, ap, _∙_, subst}
 use mathlib.Core.Bool.{Bool, true, false, cond, Bool·beq}
-use Prim.Native.Nat.{ℕ, zero, suc, _+_, _-_, _*_, _^_, _≤_, _<_, min, max}
+use Prim.Native.Nat.{ℕ, zero, suc, _+_, _-_, _*_, _^_, _≤_, _<_, min}
 use native.Mathlib.Nat.{two-pow-succ, suc-mul, le-trans, le-of-eq, lt-of-lt-of-le, mul-le-mul-right, mul-one}
 use native.Mathlib.Omega.{arith}
 use lib.Pow.{pow-pos, pow-mono, pow-add}
+use Rattle.rounding.proofs.Zeros.{amount-is}
 use Rattle.numbers.specs.Operand.{Operand, mantissa, lastWeight, WellFormed}
 use Rattle.rounding.specs.Mode.{Mode, way}
 use Rattle.rounding.specs.Answer.{Answer, rounded, answer}
@@ -15,8 +16,8 @@ use Rattle.depth.specs.Depth.{plus, result, Fixed}
 use Rattle.rounding.proofs.Selection.{multiple}
 use Rattle.numbers.proofs.Digits.{mantissa-lt, mantissa-ge, precision-two}
 use Rattle.depth.proofs.Columns.{digits-counted}
-use Rattle.depth.proofs.Place.{top-first}
-use Rattle.depth.proofs.Amounts.{amount-is, low-like, like-self}
+use Rattle.depth.proofs.Place.{top-first, top-ordered}
+use Rattle.depth.proofs.Amounts.{low-like, like-self}
 use Rattle.rounding.proofs.Ends.{plus as positive, minus as negative}
 use Rattle.depth.proofs.EndsDecide.{sum-is}
 use Rattle.depth.proofs.AllRead.{all-read, amount-same}
@@ -95,11 +96,7 @@ module _ (o : Mode) (p : ℕ) (P : 0 < p) (x y : Operand) (g : WellFormed x) (h 
   c = x .exponent - 64 * k - lastWeight y
 
   t-is : topExponent x y ≡ x .exponent
-  unfolding topExponent
-  t-is = rw (r, q) (go (x .exponent) (y .exponent) far)
-    where
-      go : (a b : ℕ) → 64 * k + b ≤ a → max a b ≡ a
-      go a b h = omega arith
+  t-is = top-ordered x y r q (omega (arith, far))
 
   s-is : scale x y ≡ lastWeight y
   unfolding scale lastWeight

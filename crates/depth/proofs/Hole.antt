@@ -12,7 +12,7 @@ use Rattle.rounding.specs.Mode.{Way, near, under, over}
 use Rattle.rounding.specs.Select.{quotient, unit, chosen, onGrid}
 use Rattle.rounding.specs.Answer.{rounded}
 use Rattle.rounding.proofs.Order.{le-or-lt, compare-at}
-use Rattle.rounding.proofs.Even.{size-ge}
+use Rattle.limb.proofs.Sizes.{size-ge}
 
 -- ---- one quotient: g = G * 2f + h, the unit is 2f * C, and v = g * C + i with 0 < i < C
 

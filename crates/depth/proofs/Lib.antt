@@ -1,4 +1,5 @@
 pub mod Columns
+pub mod Exchange
 pub mod Place
 pub mod Reach
 pub mod Amounts

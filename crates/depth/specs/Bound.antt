@@ -5,7 +5,7 @@ use lib.Dec.{leb}
 use Rattle.numbers.specs.Limits.{mostPrecision}
 use Rattle.numbers.specs.Operand.{Operand}
 
--- ceil(n/64)
+-- ceil(n/64), the columns that n digits from column 0 on take; `limbsFor`, of the same formula, is how many limbs a number has
 unfoldable pub columnsFor : ℕ → ℕ
 columnsFor n = (n + 63) / 64
 

@@ -2,9 +2,10 @@
 use mathlib.Core.Path.{_≡_, refl, sym, subst}
 use mathlib.Core.Bool.{Bool, true, false}
 use mathlib.Core.List.{List}
-use Prim.Native.Nat.{ℕ, _+_, _-_, _*_, _^_, _≤_, _<_}
+use Prim.Native.Nat.{ℕ, _+_, _-_, _*_, _^_, _<_}
 use native.Mathlib.Omega.{arith}
 use lib.ListN.{length}
+use Rattle.limb.proofs.Carry.{bit-le}
 use Rattle.limb.specs.Carry.{bit}
 use Rattle.numbers.specs.Operand.{Operand}
 use Rattle.rounding.specs.Mode.{Mode}
@@ -43,11 +44,7 @@ module _ (p : ℕ) (pair : Pair) (w : Window) (k : ℕ) (target : List ℕ) (roo
     unfolding bit
     glance-plus least next most e o x y toward first second held r =
         told-plus o p (digits-some p (length target) room) x y toward pair first second held w target k r least next most e (Fixed least)
-        (λ D s m. settled-as pair _ least _ true (sym (inside-plus p D (inside k D s) (wayIs toward) least (bit next) (one next) most)) refl)
-      where
-        one : (b : Bool) → bit b ≤ 1
-        one true = omega arith
-        one false = omega arith
+        (λ D s m. settled-as pair _ least _ true (sym (inside-plus p D (inside k D s) (wayIs toward) least (bit next) (bit-le next) most)) refl)
 
     pub glance-minus : (most : Bool) → rowOf pair k ≡ Minus most → Says p pair w k target (Fixed most)
     glance-minus most e o x y toward first second held r =

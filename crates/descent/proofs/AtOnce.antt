@@ -1,6 +1,6 @@
 -- Why the columns that fill the target may be read at once: one fewer fixes nothing, and what then stands in the target is what is read of the sum. Assumes nothing.
 use mathlib.Core.Path.{_≡_, refl, sym, ap, _∙_, subst}
-use mathlib.Core.Bool.{Bool, true, false, not, cond, _&&_, _||_, true≢false}
+use mathlib.Core.Bool.{Bool, true, false, not, cond, _&&_, _||_, true≢false, and-false}
 use mathlib.Core.List.{List}
 use Prim.Native.Nat.{ℕ, zero, suc, _+_, _-_, _*_, _/_, _%_, _^_, _≤_, _<_}
 use native.Mathlib.Decide.{decLe}
@@ -34,7 +34,6 @@ use Rattle.settle.specs.declared.rows.Row.{Row}
 use Rattle.settle.specs.declared.rows.Way as code
 use Rattle.settle.specs.declared.rows.Row.the-variants.{Exact, Plus, Minus, Hole}
 use Rattle.bounds.proofs.Ranges.{not-large, not-small}
-use Rattle.settle.proofs.Units.{and-false}
 use Rattle.bridge.specs.Verdict.{pairOf, Ordered, Leads, readSum, settledBy, refusedBy, testBy, verdict, inner?, isFar, openDigits}
 use Rattle.bridge.proofs.Decision.{decision}
 use Rattle.bridge.proofs.Told.{pair-first, pair-second, pair-top, alone-second, alone-same}
@@ -66,7 +65,7 @@ inner-cond : (b : Bool) (r s : Row) → inner? r ≡ true → inner? s ≡ true 
 inner-cond true r s h i = h
 inner-cond false r s h i = i
 
-seen-row : (s : Pair) (c : ℕ) → inner? (seenRow s c) ≡ true
+pub seen-row : (s : Pair) (c : ℕ) → inner? (seenRow s c) ≡ true
 seen-row s c = seen-inner (s .same) (ltb c (s .first) && ltb c (s .gap + s .second)) (ltb c (s .gap + s .second)) (ltb c (s .first)) (not (eqb (s .first) (c + 1) && eqb (s .gap + s .second) (c + 1)))
 
 inner-first : (s : Pair) (k : ℕ) → 64 * k < s .first → inner? (rowOf s k) ≡ true

@@ -6,6 +6,8 @@ use Prim.Native.Nat.{ℕ, _+_, _-_, _^_, _≤_, _<_}
 use native.Mathlib.Numerals.{add-one}
 use native.Mathlib.Omega.{arith}
 use lib.ListN.{length}
+use Rattle.descent.proofs.JudgingRange.{digits-some}
+use Rattle.columns.proofs.Reading.{read-early}
 use Rattle.numbers.specs.Limits.{leastPrecision, limbsFor}
 use Rattle.numbers.specs.Operand.{Operand}
 use Rattle.rounding.specs.Mode.{Mode}
@@ -19,7 +21,6 @@ use Rattle.walk.proofs.Showing.{unfilled-unmixed}
 use Rattle.settle.specs.declared.rows.Pair.{Pair}
 use Rattle.settle.specs.declared.rows.Way.{Way}
 use Rattle.bridge.specs.Verdict.{pairOf, readSum}
-use Rattle.bridge.proofs.Read.{read-none}
 use Rattle.bridge.proofs.Theorems.{level-open}
 use Rattle.descent.specs.declared.going.Verdict.{Verdict}
 use Rattle.descent.specs.declared.going.Verdict.the-variants.{Open, Fixed, InHole, Refused}
@@ -27,10 +28,6 @@ use Rattle.descent.specs.Ready.{Room}
 use Rattle.descent.specs.Course.{Course, Judged, Stopped, Held, Begun, Going, Reached, Underway, Arrived, open?}
 use Rattle.descent.proofs.GoingOn.{sum-is, difference-is, open-near, going-on, secondRead}
 use Rattle.descent.proofs.JudgingMixed.{open-unmixed}
-
-some-digits : (p n : ℕ) → Room p n → 0 < p
-unfolding leastPrecision
-some-digits p n room = omega (arith, room .least)
 
 pub room-some : (p n : ℕ) → Room p n → 0 < n
 unfolding leastPrecision limbsFor
@@ -78,7 +75,7 @@ module _ (o : Mode) (p : ℕ) (x y : Operand) (r : Window) (after : List ℕ) (k
   goes-on = go v judged
     where
       go : (v : Verdict) → Judged o p x y k v → open? v ≡ true → Going o p x y r after k
-      go Open e f = going-on o p (some-digits p (length after) room) (room .most) x y k (reached .ordered) r after reached e (open-unmixed o p x y r after k room reached e)
+      go Open e f = going-on o p (digits-some p (length after) room) (room .most) x y k (reached .ordered) r after reached e (open-unmixed o p x y r after k room reached e)
       go (Fixed more) e f = absurd (true≢false (sym f))
       go InHole e f = absurd (true≢false (sym f))
       go (Refused rule) e f = absurd (true≢false (sym f))
@@ -134,12 +131,12 @@ module _ (o : Mode) (p : ℕ) (x y : Operand) (from : ℕ) (course : Course x y 
         where
           by : (b : Bool) → mathlib.Core.Bool.cond b 0 (readTo 0 (pairOf x y .gap) (y .limbs)) ≡ 0
           by true = refl
-          by false = read-none 0 (pairOf x y .gap) (y .limbs) (course .ordered .second .limb) (omega arith)
+          by false = read-early (pairOf x y .gap) (y .limbs) (course .ordered .second .limb) 0 (omega arith)
 
       go : (b : Bool) → pairOf x y .same ≡ b → readSum x y from ≡ 0
       go true e =
           ap (readSum x y) (course .sum e) ∙ sum-is x y 0 (course .ordered) 0 e
-          ∙ ap (λ (n : ℕ). n + secondRead x y 0) (read-none 0 0 (x .limbs) (course .ordered .first .limb) (omega arith)) ∙ ap (λ (n : ℕ). 0 + n) none
+          ∙ ap (λ (n : ℕ). n + secondRead x y 0) (read-early 0 (x .limbs) (course .ordered .first .limb) 0 (omega arith)) ∙ ap (λ (n : ℕ). 0 + n) none
       go false e = difference-is x y from (course .ordered) from e ∙ gone (readTo from 0 (x .limbs)) (readTo from (pairOf x y .gap) (y .limbs)) (course .level e)
 
   pub open-before : 1 ≤ from → decideAt o p x y from ≡ false
@@ -148,7 +145,7 @@ module _ (o : Mode) (p : ℕ) (x y : Operand) (from : ℕ) (course : Course x y 
       go : (b : Bool) → pairOf x y .same ≡ b → decideAt o p x y from ≡ false
       go true e = absurd (omega (arith, course .sum e))
       go false e =
-          level-open o p (some-digits p (length target) room) x y from (course .ordered) h e (course .level e)
+          level-open o p (digits-some p (length target) room) x y from (course .ordered) h e (course .level e)
           (subst (λ (n : ℕ). readTo n (pairOf x y .gap) (y .limbs) < readTo n 0 (x .limbs)) (sym (add-one from)) (course .larger e))
 
   pub begins : (w : Window) → w .filled ≡ 0 → Shows w target from 0 → Going o p x y w target from
@@ -156,7 +153,7 @@ module _ (o : Mode) (p : ℕ) (x y : Operand) (from : ℕ) (course : Course x y 
       record {
         ordered = course .ordered;
         leads = course .larger;
-        near = open-near o p (some-digits p (length target) room) (room .most) x y from (course .ordered) open-before;
+        near = open-near o p (digits-some p (length target) room) (room .most) x y from (course .ordered) open-before;
         undecided = open-before;
         sum = λ e. skipped (w .skipped) (shownColumns w) (s .below) (s .columns) (course .sum e);
         unmixed = unfilled-unmixed w target from 0 s f;

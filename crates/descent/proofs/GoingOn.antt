@@ -10,6 +10,7 @@ use native.Mathlib.Omega.{arith}
 use borrow.Author.Tests.{eq-eqb, ne-eqb}
 use lib.Dec.{eqb}
 use lib.Pow.{pow-pos, pow-mono}
+use Rattle.columns.proofs.Reading.{read-lt}
 use Rattle.numbers.specs.Limits.{mostPrecision}
 use Rattle.numbers.specs.Operand.{Operand}
 use Rattle.numbers.proofs.Digits.{precision-two}
@@ -30,8 +31,8 @@ use Rattle.columns.proofs.Reading as walk
 use Rattle.settle.specs.declared.rows.Pair.{Pair}
 use Rattle.settle.specs.declared.rows.Way.{Way}
 use Rattle.bridge.specs.Verdict.{pairOf, Ordered, Leads, readSum}
-use Rattle.bridge.proofs.Read.{read-below, read-lead}
-use Rattle.bridge.proofs.Told.{pair-second, alone-second, alone-same}
+use Rattle.bridge.proofs.Read.{read-lead}
+use Rattle.bridge.proofs.Told.{pair-second, alone-second, unlike-regular}
 use Rattle.bridge.proofs.Theorems.{leads-same, leads-later}
 use Rattle.descent.specs.Course.{Held, Going, Reached}
 
@@ -73,7 +74,7 @@ module _ (x y : Operand) (k : ℕ) (d : Ordered x y) where
     where
       go : (z : Bool) → cond z 0 (readTo (suc k) (pairOf x y .gap) (y .limbs)) < 2 ^ (64 * suc k)
       go true = pow-pos (64 * suc k)
-      go false = read-below (suc k) (pairOf x y .gap) (y .limbs) (d .second .limb)
+      go false = read-lt (pairOf x y .gap) (y .limbs) (d .second .limb) (suc k)
 
   pub sum-is : (j : ℕ) → pairOf x y .same ≡ true → readSum x y j ≡ readTo j 0 (x .limbs) + secondRead x y j
   unfolding readSum secondRead
@@ -81,14 +82,7 @@ module _ (x y : Operand) (k : ℕ) (d : Ordered x y) where
 
   pub difference-is : (j : ℕ) → pairOf x y .same ≡ false → readSum x y j ≡ readTo j 0 (x .limbs) - readTo j (pairOf x y .gap) (y .limbs)
   unfolding readSum
-  difference-is j f = rw (f, regular)
-    where
-      regular : y .isZero ≡ false
-      regular = go (y .isZero) refl
-        where
-          go : (z : Bool) → y .isZero ≡ z → z ≡ false
-          go true e = absurd (true≢false (sym (alone-same x y e) ∙ f))
-          go false e = refl
+  difference-is j f = rw (f, unlike-regular x y f)
 
   sum-more : pairOf x y .same ≡ true → readSum x y (suc k) ≡ readSum x y k * 2 ^ 64 + columnOf k 0 (x .limbs) + secondColumn x y k
   sum-more f =
@@ -100,7 +94,7 @@ module _ (x y : Operand) (k : ℕ) (d : Ordered x y) where
       ∙ ap (λ (n : ℕ). n * 2 ^ 64 + a + b) (sym (sum-is k f))
 
   pub sum-below : pairOf x y .same ≡ true → readSum x y (suc k) < 2 * 2 ^ (64 * suc k)
-  sum-below f = omega (arith, sum-is (suc k) f, second-below, read-below (suc k) 0 (x .limbs) (d .first .limb))
+  sum-below f = omega (arith, sum-is (suc k) f, second-below, read-lt 0 (x .limbs) (d .first .limb) (suc k))
 
   sum-large : pairOf x y .same ≡ true → 1 < readSum x y (suc k)
   sum-large f =
@@ -117,18 +111,11 @@ module _ (x y : Operand) (k : ℕ) (d : Ordered x y) where
         let b = columnOf k (pairOf x y .gap) (y .limbs) in
         let X-more = walk.read-more 0 (x .limbs) k in
         let Y-more = walk.read-more (pairOf x y .gap) (y .limbs) k in
-        let same = second-some regular in
+        let same = second-some (unlike-regular x y f) in
         let D = difference-is k f in
         let lt : Y * 2 ^ 64 + b < X * 2 ^ 64 + a = rw (X-more, Y-more) at (lead f) in
         let t = taken X Y a b (walk.column-lt 0 (x .limbs) k) (walk.column-lt (pairOf x y .gap) (y .limbs) k) lt in
         (rw (same, D) (t .0), rw (same, D) (difference-is (suc k) f ∙ rw (X-more, Y-more) (t .1)))
-      where
-        regular : y .isZero ≡ false
-        regular = go (y .isZero) refl
-          where
-            go : (z : Bool) → y .isZero ≡ z → z ≡ false
-            go true e = absurd (true≢false (sym (alone-same x y e) ∙ f))
-            go false e = refl
 
 -- ---- a step
 

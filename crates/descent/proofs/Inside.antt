@@ -1,16 +1,19 @@
 -- Where the rest of D lies inside a half, no carry and no borrow from below changes what is selected. Assumes nothing.
 use mathlib.Core.Path.{_≡_, refl, sym, ap, _∙_, subst}
 use mathlib.Core.Logic.{_⊎_, inl, inr}
-use mathlib.Core.Bool.{Bool, true, false, not, _&&_, _||_, true≢false}
+use mathlib.Core.Bool.{Bool, true, false, not, _&&_, _||_}
 use mathlib.Core.List.{List}
 use Prim.Native.Nat.{ℕ, zero, suc, _+_, _-_, _*_, _/_, _%_, _^_, _≤_, _<_, compare, Ordering, Ordering·lt, Ordering·gt}
-use native.Mathlib.Nat.{mod-lt, add-mul-mod-self-left}
+use native.Mathlib.Nat.{mod-lt}
 use native.Mathlib.Omega.{arith}
-use borrow.Author.Tests.{lt-ltb, le-leb, ne-eqb, ltb-true}
+use borrow.Author.Tests.{lt-ltb, ne-eqb, ltb-true}
 use lib.Dec.{ltb, leb, eqb}
 use lib.ListN.{length, drop, getD}
 use lib.Pow.{pow-pos, pow-add, mod-pow-add}
 use lib.Ieee.{size}
+use Rattle.remnant.proofs.Resting.{word-low}
+use Rattle.decide.proofs.Settled.{enough-longer}
+use Rattle.limb.proofs.Tests.{both-true}
 use Rattle.limb.specs.Value.{valueOf}
 use Rattle.limb.specs.Carry.{bit}
 use Rattle.limb.proofs.Value.{value-drop}
@@ -56,10 +59,7 @@ module _ (p D : ℕ) (n : Inside p D) where
       whole = omega (arith, n .longer)
 
   digits-so : (w : Way) → enough w p D ≡ true
-  unfolding enough
-  digits-so near = lt-ltb p (size D) (n .longer)
-  digits-so under = le-leb p (size D) (omega (arith, n .longer))
-  digits-so over = le-leb p (size D) (omega (arith, n .longer))
+  digits-so w = enough-longer w p D (n .longer)
 
   some-rest : 0 < r
   some-rest = go r u side
@@ -125,41 +125,32 @@ module _ (p D : ℕ) (n : Inside p D) where
 
 -- ---- the last digits of a full target are those of D
 
-spread : (c Q g v E F B P W : ℕ) → P ≡ B * Q → W ≡ g + B * v → B ≡ E * F → c * P + W ≡ g + E * (F * (c * Q + v))
-spread c Q g v E F B P W a b e = rw (a, b, e) (omega arith)
+spread : (c Q g v B P W : ℕ) → P ≡ B * Q → W ≡ g + B * v → c * P + W ≡ (c * Q + v) * B + g
+spread c Q g v B P W a b = rw (a, b) (omega arith)
+
+-- so they tell whether the rest of D lies inside a half
+pub inside-by : (p n D low : ℕ) → size D ≡ n → p < n → D % 2 ^ (n - p - 1) ≡ low % 2 ^ (n - p - 1) → (1 ≤ low % 2 ^ (n - p - 1)) × (low % 2 ^ (n - p - 1) + 1 < 2 ^ (n - p - 1)) → Inside p D
+inside-by p n D low is long same t = record {
+  longer = rw is long;
+  some = rw (is, same) (t .0);
+  below = rw (is, same) (t .1);
+}
 
 module _ (w : Window) (target : List ℕ) (f : Full w target) (k D : ℕ) (s : Shows w target k D) where
   low-digits : (e : ℕ) → e ≤ 64 → D % 2 ^ e ≡ getD target 0 0 % 2 ^ e
   low-digits e h =
-      ap (λ (m : ℕ). m % 2 ^ e) (whole-shows w target k D s (f .unguarded) .value ∙ head-is w target (f .fits .limbs) (f .filled) ∙ apart)
-      ∙ add-mul-mod-self-left (getD target 0 0) (2 ^ e) (2 ^ (64 - e) * (bit (w .carry) * 2 ^ (64 * (length target - 1)) + valueOf (drop 1 target)))
-    where
-      base : 2 ^ 64 ≡ 2 ^ e * 2 ^ (64 - e)
-      base = ap (λ (m : ℕ). 2 ^ m) (let z : 64 ≡ e + (64 - e) = omega arith in z) ∙ pow-add 2 e (64 - e)
-
-      apart : bit (w .carry) * 2 ^ (64 * length target) + valueOf target ≡ getD target 0 0 + 2 ^ e * (2 ^ (64 - e) * (bit (w .carry) * 2 ^ (64 * (length target - 1)) + valueOf (drop 1 target)))
-      apart = spread (bit (w .carry)) (2 ^ (64 * (length target - 1))) (getD target 0 0) (valueOf (drop 1 target)) (2 ^ e) (2 ^ (64 - e)) (2 ^ 64) (2 ^ (64 * length target)) (valueOf target) (top-power w target (f .fits .limbs)) (value-drop (2 ^ 64) 0 target) base
+      let above : ℕ = bit (w .carry) * 2 ^ (64 * (length target - 1)) + valueOf (drop 1 target) in
+      let apart : bit (w .carry) * 2 ^ (64 * length target) + valueOf target ≡ above * 2 ^ 64 + getD target 0 0 =
+      spread (bit (w .carry)) (2 ^ (64 * (length target - 1))) (getD target 0 0) (valueOf (drop 1 target)) (2 ^ 64) (2 ^ (64 * length target)) (valueOf target) (top-power w target (f .fits .limbs)) (value-drop (2 ^ 64) 0 target) in
+      ap (λ (m : ℕ). m % 2 ^ e) (whole-shows w target k D s (f .unguarded) .value ∙ head-is w target (f .fits .limbs) (f .filled) ∙ apart) ∙ word-low above (getD target 0 0) e h
 
 pub inside-told : (p n : ℕ) (w : Window) (target : List ℕ) → Full w target → ShowsDigits w target n → p < n → n - p ≤ 64
     → (1 ≤ getD target 0 0 % 2 ^ (n - p - 1)) × (getD target 0 0 % 2 ^ (n - p - 1) + 1 < 2 ^ (n - p - 1)) → (k D : ℕ) → Shows w target k D → Inside p D
 inside-told p n w target f d long few t k D s =
-    record {
-      longer = subst (λ (m : ℕ). p < m) is long;
-      some = subst (λ (m : ℕ). 1 ≤ D % 2 ^ (m - p - 1)) is (rw low (t .0));
-      below = subst (λ (m : ℕ). D % 2 ^ (m - p - 1) + 1 < 2 ^ (m - p - 1)) is (rw low (t .1));
-    }
-  where
-    is : n ≡ size D
-    is = omega (arith, d .exact k D s, whole-shows w target k D s (f .unguarded) .below)
-
-    low : D % 2 ^ (n - p - 1) ≡ getD target 0 0 % 2 ^ (n - p - 1)
-    low = low-digits w target f k D s (n - p - 1) (omega arith)
+    let is : size D ≡ n = omega (arith, d .exact k D s, whole-shows w target k D s (f .unguarded) .below) in
+    inside-by p n D (getD target 0 0) is long (low-digits w target f k D s (n - p - 1) (omega arith)) t
 
 -- ---- the test on a limb
-
-both-true : (a b : Bool) → (a && b) ≡ true → (a ≡ true) × (b ≡ true)
-both-true true b e = (refl, e)
-both-true false b e = absurd (true≢false (sym e))
 
 pub limb-inside : (low half h : ℕ) → half ≡ h → (ltb 0 (low % half) && ltb (low % half) (half - 1)) ≡ true → (1 ≤ low % h) × (low % h + 1 < h)
 limb-inside low half h e t = rw (sym e) (let u = both-true _ _ t in (ltb-true 0 (low % half) (u .0), omega (arith, ltb-true (low % half) (half - 1) (u .1))))

@@ -11,6 +11,8 @@ use lib.Dec.{ltb, leb, eqb}
 use lib.ListN.{length}
 use lib.Pow.{pow-add, pow-pos, mod-pow-add}
 use lib.Ieee.{size}
+use Rattle.decide.proofs.Settled.{enough-longer}
+use Rattle.limb.proofs.Carry.{bit-le}
 use Rattle.limb.specs.Carry.{bit}
 use Rattle.numbers.specs.Limits.{leastPrecision, limbsFor}
 use Rattle.numbers.specs.Operand.{Operand}
@@ -102,10 +104,7 @@ module _ (p D t n S : ℕ) (value : D ≡ S * 2 ^ t + n) (some : 0 < n) (room : 
   longer = omega arith
 
   enough-is : (w : Way) → enough w p D ≡ true
-  unfolding enough
-  enough-is near = lt-ltb p (size D) longer
-  enough-is under = le-leb p (size D) (omega arith)
-  enough-is over = le-leb p (size D) (omega arith)
+  enough-is w = enough-longer w p D longer
 
   offs : (w : Way) (least most : Bool) (i : ℕ) → i ≤ 1 → alike (off w (D / u) u (D % u) least) (off w (D / u) u (D % u + i) most) ≡ true
   unfolding off tie
@@ -115,11 +114,6 @@ module _ (p D t n S : ℕ) (value : D ≡ S * 2 ^ t + n) (some : 0 < n) (room : 
     | inl h ↦ rw (compare-at Ordering·lt (D % u * 2) u (omega arith), compare-at Ordering·lt ((D % u + i) * 2) u (omega arith))
     | inr h ↦ rw (compare-at Ordering·gt (D % u * 2) u (omega arith), compare-at Ordering·gt ((D % u + i) * 2) u (omega arith))
   ]
-
-  bit-le : (b : Bool) → bit b ≤ 1
-  unfolding bit
-  bit-le true = omega arith
-  bit-le false = omega arith
 
   mixed-plus : (w : Way) (least next most : Bool) → settled w p D least (bit next) most ≡ true
   mixed-plus w least next most =

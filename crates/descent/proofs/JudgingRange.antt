@@ -1,7 +1,7 @@
 -- How many digits D has, whether the first are all 1, and so whether both ends are refused alike. Assumes nothing.
 use mathlib.Core.Path.{_≡_, refl, sym, ap, _∙_, subst}
 use mathlib.Core.Logic.{inl, inr}
-use mathlib.Core.Bool.{Bool, true, false, not, cond}
+use mathlib.Core.Bool.{Bool, true, false, not, cond, and-false}
 use mathlib.Core.List.{List}
 use Prim.Native.Nat.{ℕ, suc, _+_, _-_, _*_, _/_, _^_, _≤_, _<_}
 use native.Mathlib.Nat.{div-one, pow-zero}
@@ -12,6 +12,7 @@ use lib.ListN.{length}
 use lib.Pow.{pow-mono}
 use lib.Ieee.{size}
 use lib.Ieee.Digits.{size-lt}
+use Rattle.limb.proofs.Carry.{bit-le}
 use Rattle.limb.specs.Carry.{bit}
 use Rattle.numbers.specs.Limits.{leastPrecision, mostPrecision, leastExponent, mostExponent, limbsFor}
 use Rattle.rounding.specs.Mode.{Way}
@@ -25,16 +26,11 @@ use Rattle.walk.proofs.Showing.{columns-open, columns-guarded, whole-shows}
 use Rattle.bounds.specs.Ends.{isFar, isNext, openDigits, Ones}
 use Rattle.settle.specs.declared.rows.Pair.{Pair}
 use Rattle.bounds.proofs.Ranges.{not-large, not-small}
-use Rattle.settle.proofs.Units.{and-false}
 use Rattle.bridge.specs.Verdict.{refusedBy}
 use Rattle.descent.specs.declared.going.Verdict.{Verdict}
 use Rattle.descent.specs.declared.going.Verdict.the-variants.{Open, Fixed, InHole, Refused}
 use Rattle.descent.specs.Ready.{Room}
 use Rattle.descent.specs.Course.{Measured, Moderate, refusedAs, verdictAs}
-
-pub not-false : (b : Bool) → not b ≡ true → b ≡ false
-not-false true e = sym e
-not-false false e = refl
 
 -- ---- a target has few limbs
 
@@ -88,11 +84,7 @@ module _ (pair : Pair) (w : Window) (target : List ℕ) (k : ℕ) (m : Measured 
 
   module _ (r : ℕ) (d : ShowsDigits w target r) where
     most-are : (b : Bool) → w .guarded ≡ b → r ≤ 64 * w .filled + 64 * bit b + 1
-    most-are b e = subst (λ (g : Bool). r ≤ 64 * w .filled + 64 * bit g + 1) e (omega (arith, d .most, one (w .carry)))
-      where
-        one : (c : Bool) → bit c ≤ 1
-        one true = unfold bit in omega arith
-        one false = unfold bit in omega arith
+    most-are b e = subst (λ (g : Bool). r ≤ 64 * w .filled + 64 * bit g + 1) e (omega (arith, d .most, bit-le (w .carry)))
 
     pub digits-guarded : w .guarded ≡ true → (r + 64 * (k - w .skipped - w .filled - 1) ≤ 2 ^ 30) × ((D : ℕ) → Shows w target k D → r + 64 * (k - w .skipped - w .filled - 1) ≡ size D)
     unfolding bit

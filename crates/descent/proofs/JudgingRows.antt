@@ -32,7 +32,7 @@ use Rattle.settle.specs.declared.rows.Row.{Row}
 use Rattle.settle.specs.declared.rows.Row.the-variants.{Exact, Plus, Minus, Hole}
 use Rattle.hole.proofs.Holes.{formed-operand}
 use Rattle.bridge.specs.Verdict.{pairOf, Ordered, readSum, settledBy, refusedBy, moreOf, verdict, inner?, holeWay}
-use Rattle.bridge.proofs.Told.{pair-first, pair-top, pair-second, pair-gap, pair-same, alone-second, alone-gap, alone-same}
+use Rattle.bridge.proofs.Told.{pair-first, pair-top, pair-second, pair-gap, pair-same, alone-second, alone-gap, unlike-regular}
 use Rattle.bridge.proofs.Decision.{decision}
 use Rattle.bridge.proofs.Answers.{sum-pos, settled-digits, tests-are, refused-sum}
 use Rattle.bridge.proofs.Theorems.{row-sum, hole-place, hole-decision, hole-sum, hole-difference}
@@ -73,11 +73,7 @@ module _ (x y : Operand) (k : ℕ) (d : Ordered x y) (near : k ≤ deepest) wher
       by false e = omega (arith, pair-gap x y e, high)
 
   second-there : pairOf x y .same ≡ false → 0 < pairOf x y .second
-  second-there f = go (y .isZero) refl
-    where
-      go : (b : Bool) → y .isZero ≡ b → 0 < pairOf x y .second
-      go true e = absurd (true≢false (sym (alone-same x y e) ∙ f))
-      go false e = omega (arith, pair-second x y e, precision-two y (d .second))
+  second-there f = omega (arith, pair-second x y (unlike-regular x y f), precision-two y (d .second))
 
 module _ (toward : Way) (pair : Pair) (first : List ℕ) (w : Window) (target : List ℕ) (k : ℕ) (a : Arrived toward pair first w target k) where
   abbrev x : Operand

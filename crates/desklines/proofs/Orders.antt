@@ -46,12 +46,13 @@ module _ (line : List ℕ) where
   unfolding orderSize
   size-is e = e
 
-  first : (length line ≡ 9 → ⊥) → orderRefusal line ≡ record { rule = 8; place = 3 }
-  unfolding orderRefusal orderSize firstRefusal
-  first n = simp (ne-eqb (length line) 9 n)
+  pub refused-size : (length line ≡ orderSize → ⊥) → orderRefusal line ≡ record { rule = 8; place = 3 }
+  unfolding orderRefusal firstRefusal
+  refused-size n = simp (ne-eqb (length line) orderSize n)
 
   pub wrong-size : (length line ≡ 9 → ⊥) → refusedOrder 8 ≡ orderOf line
-  wrong-size n = named line 8 (λ z. let k : _≡_ {A = ℕ} 8 0 = z in omega arith) (first n)
+  unfolding orderSize
+  wrong-size n = named line 8 (λ z. let k : _≡_ {A = ℕ} 8 0 = z in omega arith) (refused-size n)
 
   module _ (size : length line ≡ 9) where
     second : digitsHold line ≡ false → orderRefusal line ≡ record { rule = 9; place = 3 }

@@ -1,8 +1,8 @@
 -- Lines put one behind the other at the start of a room. Assumes nothing.
 use mathlib.Core.Path.{_≡_, refl, sym, ap, _∙_}
-use mathlib.Core.Bool.{Bool, true, false, cond}
+use mathlib.Core.Bool.{true, false, cond}
 use mathlib.Core.List.{List, [], _∷_, _++_, append-assoc}
-use Prim.Native.Nat.{ℕ, zero, suc, _+_, _-_, _*_, _≤_, _<_}
+use Prim.Native.Nat.{ℕ, zero, suc, _+_, _-_, _≤_, _<_}
 use native.Mathlib.Omega.{arith}
 use native.Mathlib.Decide.{ℕ-discrete}
 use borrow.Author.Tests.{eq-eqb, ne-eqb, ltb-true, ltb-false}
@@ -11,20 +11,18 @@ use lib.IntN.{ℤ, pos, negsuc}
 use lib.Signed.{ltZ}
 use lib.ListN.{length, take, drop, set, length-append, length-drop}
 use borrow.Rule.Slice.PartMut.{putMid}
-use Rattle.numbers.specs.Limits.{mostPrecision, limbsFor}
+use Rattle.lines.proofs.Longest.{line-fits}
 use Rattle.numbers.specs.Operand.{WellFormed}
-use Rattle.numbers.proofs.Limits.{limbs-hold, limbs-fewest}
 use Rattle.checks.specs.declared.Number.{Number}
 use Rattle.checks.specs.declared.Refusal.{Refusal}
-use Rattle.checks.specs.Number.{isZeroKind, operandOf}
+use Rattle.checks.specs.Number.{operandOf}
 use Rattle.checks.specs.Check.{accepted, aloneRefusal}
 use Rattle.checks.proofs.Accepted.{alone-accepted}
 use Rattle.text.specs.Digits.{numeral}
 use Rattle.text.proofs.Numeral.{length-numeral}
 use Rattle.lines.specs.declared.Written.{Written}
-use Rattle.lines.specs.Line.{lineFeed, lineOf, lineSize, longestLine, shortestLine}
+use Rattle.lines.specs.Line.{lineFeed, lineOf, longestLine}
 use Rattle.lines.specs.Writing.{onto, writeRefusal, writtenOf, roomAfter}
-use Rattle.lines.proofs.Size.{size-is}
 use Rattle.lines.proofs.Answered.{write-accepted}
 use Rattle.lines.proofs.Room.{onto-nothing, put-numeral, set-onto}
 use Rattle.reports.specs.declared.report.Sum.{Sum}
@@ -118,16 +116,9 @@ pub refused-told : (s : Sum) (limbs o e : List ℕ) (n : ℕ) → (s .refusal .r
 unfolding sumLines
 refused-told s limbs o e n h t = simp (ne-eqb (s .refusal .rule) 0 h) t
 
-pub limbs-few : (p : ℕ) → p ≤ mostPrecision → limbsFor p ≤ limbsFor mostPrecision
-limbs-few p h = omega (arith, limbs-fewest p, limbs-hold mostPrecision)
-
-size-fits : (b : Bool) (n m : ℕ) → n ≤ m → cond b shortestLine (shortestLine + 16 * n) ≤ shortestLine + 16 * m
-size-fits true n m h = omega arith
-size-fits false n m h = omega arith
-
-line-fits : (x : Number) (limbs : List ℕ) → WellFormed (operandOf x limbs) → length (lineOf x limbs) ≤ longestLine
-unfolding longestLine lineSize operandOf
-line-fits x limbs formed = rw (size-is x limbs (formed .count)) (size-fits (isZeroKind (x .kind)) _ _ (limbs-few (x .precision) (formed .most)))
+number-fits : (x : Number) (limbs : List ℕ) → WellFormed (operandOf x limbs) → length (lineOf x limbs) ≤ longestLine
+unfolding operandOf
+number-fits x limbs formed = line-fits x limbs (formed .count) (formed .most)
 
 -- a number of good form is written, and the report comes behind it
 module _ (s : Sum) (limbs o : List ℕ) (formed : WellFormed (operandOf (s .number) limbs)) (room : longestAnswer ≤ length o) where
@@ -137,7 +128,7 @@ module _ (s : Sum) (limbs o : List ℕ) (formed : WellFormed (operandOf (s .numb
 
   is-written : writeRefusal (s .number) limbs (length o) ≡ accepted
   unfolding longestAnswer
-  is-written = write-accepted (s .number) limbs (length o) alone (omega (arith, line-fits (s .number) limbs formed))
+  is-written = write-accepted (s .number) limbs (length o) alone (omega (arith, number-fits (s .number) limbs formed))
 
   count-is-size : (w : Written) → w ≡ writtenOf (s .number) limbs (length o) → w .count ≡ length (lineOf (s .number) limbs)
   unfolding writtenOf accepted
@@ -145,7 +136,7 @@ module _ (s : Sum) (limbs o : List ℕ) (formed : WellFormed (operandOf (s .numb
 
   pub count-fits : (w : Written) → w ≡ writtenOf (s .number) limbs (length o) → w .count + reportSize ≤ length o
   unfolding longestAnswer
-  count-fits w e = omega (arith, line-fits (s .number) limbs formed, count-is-size w e)
+  count-fits w e = omega (arith, number-fits (s .number) limbs formed, count-is-size w e)
 
   pub sum-told : (w : Written) (a b : List ℕ) (n : ℕ) → s .refusal .rule ≡ 0 → w ≡ writtenOf (s .number) limbs (length o) → a ≡ roomAfter (s .number) limbs o → Appends (reportLine s) reportSize (w .count) a b n
       → Tells (sumLines s limbs) o b n
@@ -165,5 +156,5 @@ unfolding sumLines longestAnswer
 sum-few s limbs f = go (ℕ-discrete (s .refusal .rule) 0)
   where
     go : Dec (s .refusal .rule ≡ 0) → length (cond (eqb (s .refusal .rule) 0) (lineOf (s .number) limbs ++ reportLine s) (refusalLine (s .refusal))) ≤ longestLine + reportSize
-    go (yes z) = simp (eq-eqb (s .refusal .rule) 0 z, length-append, report-length s) (omega (arith, line-fits (s .number) limbs (f z)))
+    go (yes z) = simp (eq-eqb (s .refusal .rule) 0 z, length-append, report-length s) (omega (arith, number-fits (s .number) limbs (f z)))
     go (no z) = simp (ne-eqb (s .refusal .rule) 0 z, refusal-length (s .refusal)) (omega (arith, refusal-fits))

@@ -12,6 +12,7 @@ use lib.Ieee.{Float, binary64, toBits, fits, isNan, size}
 use lib.Ieee.Bits.{ofBits-toBits, toBits-lt}
 use lib.Ieee.Digits.{size-lt, size-le, size-reaches}
 use borrow.Author.Tests.{ltb-true, eqb-false, eqb-true, eq-eqb, ne-eqb, leb-true, leb-false}
+use Rattle.rounding.proofs.Order.{zero-or}
 use Rattle.limb.specs.Value.{valueIn, valueOf, Below}
 use Rattle.numbers.specs.Limits.{leastPrecision, mostPrecision, bias, counted, leastExponent, mostExponent, limbsFor}
 use Rattle.numbers.specs.Operand.{Operand, mantissa, lastWeight, spareBits, WellFormed}
@@ -19,7 +20,7 @@ use Rattle.rounding.specs.Mode.{modeOf, way}
 use Rattle.rounding.specs.Answer.{number}
 use Rattle.rounding.specs.Sum.{amount, reround}
 use Rattle.rounding.proofs.Selection.{multiple}
-use Rattle.rounding.proofs.Even.{size-is, size-ge}
+use Rattle.limb.proofs.Sizes.{size-is, size-ge}
 use Rattle.rounding.proofs.Range.{accepted-only}
 use Rattle.rounding.proofs.Reround.{reround-is, reround-own}
 use Rattle.location.specs.Ternary.{ternaryOf}
@@ -266,20 +267,13 @@ module _ (b : ℕ) (empty : doubleDigits b ≡ 0) where
 
 -- ---- every finite double
 
-digits-or : (b : ℕ) → (doubleDigits b ≡ 0) ⊎ (0 < doubleDigits b)
-digits-or b = go (doubleDigits b)
-  where
-    go : (k : ℕ) → (k ≡ 0) ⊎ (0 < k)
-    go zero = inl refl
-    go (suc k) = inr (omega arith)
-
 -- the number read from a double is of good form
 pub read-formed : (b : ℕ) → isFinite b ≡ true → WellFormed (readBack b)
-read-formed b f = elim (digits-or b) [ inl e ↦ subst WellFormed (sym (nothing-is b e)) (nothing-formed b e) | inr h ↦ subst WellFormed (sym (regular-is b f h)) (regular-formed b f h) ]
+read-formed b f = elim (zero-or (doubleDigits b)) [ inl e ↦ subst WellFormed (sym (nothing-is b e)) (nothing-formed b e) | inr h ↦ subst WellFormed (sym (regular-is b f h)) (regular-formed b f h) ]
 
 -- its sign and its worth are the double's: "Double to number is exact at precision 53"
 pub read-worth : (b : ℕ) → isFinite b ≡ true → (readBack b .precision ≡ 53) × (readBack b .negative ≡ doubleSign b) × (amount 0 (readBack b) ≡ doubleWorth b * 2 ^ doubleUnit)
-read-worth b f = elim (digits-or b) [
+read-worth b f = elim (zero-or (doubleDigits b)) [
   | inl e ↦ subst (λ (x : Operand). (x .precision ≡ 53) × (x .negative ≡ doubleSign b) × (amount 0 x ≡ doubleWorth b * 2 ^ doubleUnit)) (sym (nothing-is b e)) (refl, refl, nothing-worth b e)
   | inr h ↦ subst (λ (x : Operand). (x .precision ≡ 53) × (x .negative ≡ doubleSign b) × (amount 0 x ≡ doubleWorth b * 2 ^ doubleUnit)) (sym (regular-is b f h)) (refl, refl, regular-worth b f h)
 ]
@@ -290,7 +284,7 @@ unfolding convertedOf accepted
 converted-is mode x m g = rw (converted-accepted mode x m g) refl
 
 some-digits : (b : ℕ) → (exponentField b ≡ 0 → ⊥) → 0 < doubleDigits b
-some-digits b k = elim (digits-or b) [ inl e ↦ absurd (normal-some b k e) | inr h ↦ h ]
+some-digits b k = elim (zero-or (doubleDigits b)) [ inl e ↦ absurd (normal-some b k e) | inr h ↦ h ]
 
 -- a double that is normal or zero comes back from its number as itself, in every mode
 pub comes-back : (mode b : ℕ) → mode ≤ 3 → b < 2 ^ 64 → isFinite b ≡ true → (exponentField b ≡ 0 → ⊥) ⊎ (doubleDigits b ≡ 0) → convertedOf mode (readBack b) ≡ Exact (double b)

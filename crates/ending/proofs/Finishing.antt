@@ -5,6 +5,9 @@ use mathlib.Core.Bool.{Bool, true, false, not, cond, _&&_, _||_}
 use mathlib.Core.List.{List, _++_}
 use Prim.Native.Nat.{ℕ, zero, suc, _+_, _-_, _*_, _^_, _≤_, _<_}
 use native.Mathlib.Nat.{pow-zero, le-trans, mul-le-mul-right}
+use Rattle.walk.proofs.Walking.{tail-lt}
+use Rattle.descent.proofs.GoingDown.{room-some}
+use Rattle.descent.proofs.JudgingRange.{digits-fit, digits-some}
 use Rattle.rounding.proofs.Order.{le-or-lt}
 use native.Mathlib.Decide.{ℕ-discrete}
 use native.Mathlib.Omega.{arith}
@@ -18,7 +21,6 @@ use Rattle.limb.specs.Value.{valueIn, valueOf, Below}
 use Rattle.limb.specs.Carry.{bit}
 use Rattle.limb.proofs.Value.{value-append, value-lt, value-take-lt, base-pow}
 use Rattle.numbers.specs.Limits.{leastPrecision, mostPrecision, mostExponent, limbsFor}
-use Rattle.numbers.proofs.Limits.{two-digits, limbs-hold}
 use Rattle.rounding.specs.Mode.{Way, modeOf, way}
 use Rattle.rounding.specs.Answer.{Answer, rounded}
 use Rattle.decide.specs.Class.{enough}
@@ -31,8 +33,6 @@ use Rattle.place.proofs.Answer.{placed-passed, limbs-passed}
 use Rattle.place.proofs.Rules.{rule-none}
 use Rattle.kept.proofs.Reaching.{top-apart}
 use Rattle.walk.specs.declared.state.Window.{Window}
-use Rattle.walk.specs.declared.state.Tail.{Tail}
-use Rattle.walk.specs.declared.state.Tail.the-variants.{Empty, Zeros, Ones, Mixed}
 use Rattle.walk.specs.Change.{Fallen}
 use Rattle.walk.specs.Window.{headOf, TailIs, Shows}
 use Rattle.walk.proofs.Showing.{whole-shows, tailed-shows, columns-open, columns-guarded}
@@ -61,15 +61,6 @@ cleared n before after l e = record {
     alone m = omega arith
 
 -- ---- a run
-
-room-limbs : (p n : ℕ) → Room p n → p ≤ 64 * n
-room-limbs p n r = rw (r .count) (limbs-hold p)
-
-pub room-some : (p n : ℕ) → Room p n → 0 < n
-room-some p n r = omega (arith, two-digits, r .least, room-limbs p n r)
-
-pub room-pos : (p n : ℕ) → Room p n → 0 < p
-room-pos p n r = omega (arith, two-digits, r .least)
 
 -- a run as great as its target's weights has a first digit there
 module _ (carry : Bool) (t : List ℕ) (guard : ℕ) (lim : Below (2 ^ 64) t) (lt : guard < 2 ^ 64) (some : 0 < length t) (high : 2 ^ (64 * length t) ≤ whole carry t guard) where
@@ -116,12 +107,6 @@ module _ (mode p : ℕ) (negative : Bool) (unit : ℕ) (carry : Bool) (t : List 
       record { told = e ∙ placed-passed mode p negative unit carry t guard more k; limbs = f ∙ limbs-passed mode p negative unit carry t guard more k }
 
 -- ---- the window as a run
-
-pub tail-lt : (tail : Tail) (t r : ℕ) → TailIs tail t r → r < 2 ^ (64 * t)
-tail-lt Empty t r h = rw (h .1) (pow-pos (64 * t))
-tail-lt Zeros t r h = rw (h .1) (pow-pos (64 * t))
-tail-lt Ones t r h = omega arith
-tail-lt Mixed t r h = omega arith
 
 module _ (w : Window) (before after : List ℕ) (k D : ℕ) (s : Shows w before k D) (e : Cleared (length before - w .filled) before after) (pos : 0 < D) where
   abbrev N : ℕ
@@ -229,11 +214,11 @@ module _ (w : Window) (before after : List ℕ) (k D : ℕ) (s : Shows w before 
 
     module _ (y : Way) (negative : Bool) where
       P-pos : 0 < p
-      P-pos = room-pos p L (end .room)
+      P-pos = digits-some p L (end .room)
 
       -- more digits than are asked for
       pub digits : (n : ℕ) → 2 ^ (64 * L) ≤ n → Enough y p n
-      digits n h = enough-digits y p n (elim (le-or-lt (size n) p) [ inl g ↦ absurd (over n (2 ^ size n) (2 ^ (64 * L)) (size-lt n) (pow-mono (le-trans g (room-limbs p L (end .room)))) h) | inr g ↦ g ])
+      digits n h = enough-digits y p n (elim (le-or-lt (size n) p) [ inl g ↦ absurd (over n (2 ^ size n) (2 ^ (64 * L)) (size-lt n) (pow-mono (le-trans g (digits-fit p L (end .room)))) h) | inr g ↦ g ])
         where
           over : (n a b : ℕ) → n < a → a ≤ b → b ≤ n → ⊥
           over n a b f g h = omega arith
@@ -299,7 +284,7 @@ module _ (w : Window) (before after : List ℕ) (k D : ℕ) (s : Shows w before 
         -- with a guard nothing is added below it
         module _ (g : w .guarded ≡ true) where
           far-enough : p + 1 < 64 * k + 64 * 0
-          far-enough = let i = tailed-shows w before k D s g in go (w .skipped) (w .filled) L (s .below) (i .full) (i .columns) (room-limbs p L (end .room))
+          far-enough = let i = tailed-shows w before k D s g in go (w .skipped) (w .filled) L (s .below) (i .full) (i .columns) (digits-fit p L (end .room))
             where
               go : (s f L b : ℕ) → f ≡ L → s + (f + 1) + b ≡ k → p ≤ 64 * L → p + 1 < 64 * k + 64 * 0
               go s f L b e h l = omega arith
@@ -335,7 +320,7 @@ module _ (w : Window) (before after : List ℕ) (k D : ℕ) (s : Shows w before 
           open-said : w .guarded ≡ false → a ≡ Told (cond (pair .same) (2 * N + 1) (2 * N - 1))
           open-said g =
               let j = L + 1 - w .filled in
-              said j (subst (λ (n : ℕ). p + 1 < n) (sym (open-room g)) (far (w .skipped) L (room-limbs p L (end .room)))) (subst (λ (n : ℕ). n + 1 ≤ top) (sym (open-room g)) (next (64 * (w .skipped + L + 1)) top (end .above)))
+              said j (subst (λ (n : ℕ). p + 1 < n) (sym (open-room g)) (far (w .skipped) L (digits-fit p L (end .room)))) (subst (λ (n : ℕ). n + 1 ≤ top) (sym (open-room g)) (next (64 * (w .skipped + L + 1)) top (end .above)))
               ∙ ap (λ (n : ℕ). rounded y p (n - 1) negative (cond (pair .same) (2 * (D * 2 ^ (64 * j)) + 1) (2 * (D * 2 ^ (64 * j)) - 1))) (open-unit g)
               ∙ ap (λ (n : ℕ). Told (cond (pair .same) (2 * n + 1) (2 * n - 1))) (sym (open-run g))
             where

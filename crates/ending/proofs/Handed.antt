@@ -7,6 +7,7 @@ use native.Mathlib.Nat.{div-div-eq-div-mul}
 use native.Mathlib.Omega.{arith}
 use lib.ListN.{length, getD, drop, drop-of-length-le}
 use lib.Pow.{pow-add}
+use Rattle.columns.proofs.Reading.{read-early}
 use Rattle.limb.specs.Value.{valueOf, Below}
 use Rattle.limb.proofs.Value.{value-nil, value-drop, value-shr, base-pow}
 use Rattle.numbers.specs.Limits.{counted}
@@ -17,7 +18,6 @@ use Rattle.checks.specs.Number.{operandOf}
 use Rattle.columns.specs.Column.{readTo}
 use Rattle.leap.proofs.Leaping.{read-down}
 use Rattle.bridge.specs.Verdict.{pairOf, Ordered}
-use Rattle.bridge.proofs.Read.{read-none}
 use Rattle.descent.specs.Course.{Course}
 
 pub ordered-pair : (x : Number) (xl : List ℕ) (y : Number) (yl : List ℕ) (c d : ℕ) → operandOf y yl .isZero ≡ false → c ≡ counted (x .exponent) → d ≡ counted (y .exponent)
@@ -74,7 +74,7 @@ pub course-first : (x y : Operand) → Ordered x y → (pairOf x y .same ≡ fal
 course-first x y d larger = record {
   ordered = d;
   sum = λ h. refl;
-  level = λ h. read-none 0 (pairOf x y .gap) (y .limbs) (d .second .limb) zero-le ∙ sym (read-none 0 0 (x .limbs) (d .first .limb) zero-le);
+  level = λ h. read-early (pairOf x y .gap) (y .limbs) (d .second .limb) 0 zero-le ∙ sym (read-early 0 (x .limbs) (d .first .limb) 0 zero-le);
   larger = larger;
   near = zero-le;
 }

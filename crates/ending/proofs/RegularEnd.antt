@@ -10,6 +10,8 @@ use native.Mathlib.Omega.{arith}
 use lib.Dec.{ltb}
 use lib.ListN.{length, replicate}
 use lib.Ieee.{size}
+use Rattle.bridge.proofs.Told.{pair-top}
+use Rattle.descent.proofs.JudgingRange.{digits-some}
 use Rattle.limb.specs.Carry.{bit}
 use Rattle.numbers.specs.Limits.{mostPrecision, leastExponent, mostExponent, limbsFor}
 use Rattle.numbers.specs.Operand.{Operand}
@@ -42,7 +44,6 @@ use Rattle.descent.specs.Ready.{Room}
 use Rattle.descent.specs.Course.{Course, Judged, Stopped}
 use Rattle.ending.specs.Finishing.{Ending, Left, HoleSays}
 use Rattle.reports.specs.Signed.{Signed}
-use Rattle.ending.proofs.Finishing.{room-pos}
 
 pub deep-enough : 66 ≤ deepest
 unfolding deepest columnsFor farColumns mostPrecision
@@ -78,7 +79,7 @@ module _ (mode p n : ℕ) (room : Room p n) (x y : Operand) (from : ℕ) (course
   d = course .ordered
 
   P-pos : 0 < p
-  P-pos = room-pos p n room
+  P-pos = digits-some p n room
 
   digits-most : p ≤ 4096
   unfolding mostPrecision
@@ -109,10 +110,6 @@ module _ (mode p n : ℕ) (room : Room p n) (x y : Operand) (from : ℕ) (course
   above : (j : ℕ) → j ≤ deepest → 64 * (k + j) < x .exponent
   above j h = let a = columns-above x (d .first) (d .regular) (k + j) (omega (arith, st .near)) in omega arith
 
-  top-is : pairOf x y .top ≡ x .exponent
-  unfolding pairOf
-  top-is = refl
-
   pub depth-told : Depth plus o p x y k
   depth-told = record { zeros = λ e. absurd (true≢false (sym e ∙ rw (d .regular) refl)); deciding = λ e. depth-decided o p P-pos x y (d .first) (d .second) k (st .some) (st .fixed) (st .first) }
 
@@ -121,7 +118,7 @@ module _ (mode p n : ℕ) (room : Room p n) (x y : Operand) (from : ℕ) (course
       let c = st .shows .columns in
       let l = room-few p (length t) r in
       let a = columns-above x (d .first) (d .regular) (walked .window .skipped + length t + 1) (omega (arith, deep-enough, st .near)) in
-      record { room = r; fits = st .shows .fits; above = rw top-is (omega arith); near = rw top-is (omega (arith, d .first .regular (d .regular) .most)) }
+      record { room = r; fits = st .shows .fits; above = rw (pair-top x y) (omega arith); near = rw (pair-top x y) (omega (arith, d .first .regular (d .regular) .most)) }
 
   far : p + 1 < 64 * k + 64 * 65
   far = omega (arith, digits-most)
@@ -146,7 +143,7 @@ module _ (mode p n : ℕ) (room : Room p n) (x y : Operand) (from : ℕ) (course
           refusal false = tt
 
   hole-says : walked .verdict ≡ verdict.InHole → HoleSays (way o (x .negative)) p (pairOf x y) (x .negative) k (readSum x y k) (add o p x y)
-  hole-says e b a h = judged-as verdict.InHole e .1 b a (subst (λ (m : ℕ). 64 * k + 64 * b + 1 ≤ m) top-is h) ∙ ap (λ (m : ℕ). rounded (holeWay (way o (x .negative)) p (pairOf x y)) p (m - 64 * k - 64 * b - 1) (x .negative) (cond (pairOf x y .same) (2 * (readSum x y k * 2 ^ (64 * b)) + 1) (2 * (readSum x y k * 2 ^ (64 * b)) - 1))) (sym top-is)
+  hole-says e b a h = judged-as verdict.InHole e .1 b a (subst (λ (m : ℕ). 64 * k + 64 * b + 1 ≤ m) (pair-top x y) h) ∙ ap (λ (m : ℕ). rounded (holeWay (way o (x .negative)) p (pairOf x y)) p (m - 64 * k - 64 * b - 1) (x .negative) (cond (pairOf x y .same) (2 * (readSum x y k * 2 ^ (64 * b)) + 1) (2 * (readSum x y k * 2 ^ (64 * b)) - 1))) (sym (pair-top x y))
 
   -- ---- the verdicts
 
@@ -155,14 +152,14 @@ module _ (mode p n : ℕ) (room : Room p n) (x y : Operand) (from : ℕ) (course
     open-never e = absurd (true≢false (sym (st .fixed) ∙ judged-as verdict.Open e))
 
     under : 64 * k < pair .top
-    under = rw (pe, top-is) (let a = above 0 (omega arith) in omega arith)
+    under = rw (pe, pair-top x y) (let a = above 0 (omega arith) in omega arith)
 
     pub fixed-told : {exit : List ℕ} {r : Placed} (more : Bool) → walked .verdict ≡ verdict.Fixed more
         → ((k D : ℕ) → Shows (walked .window) t k D → 0 < D → 64 * k < pair .top → (more ≡ true → enough (way o negative) p D ≡ true) → Left p (rounded (way o negative) p (pair .top - 64 * k - 1) negative (2 * D + bit more)) exit r)
         → Left p (add o p x y) exit r
     fixed-told more e f =
         let j = judged-as (verdict.Fixed more) e in
-        rw (j .1) (rw (pe, top-is, ne) at (f k (readSum x y k) (st .shows) positive under (rw ne (j .2))))
+        rw (j .1) (rw (pe, pair-top x y, ne) at (f k (readSum x y k) (st .shows) positive under (rw ne (j .2))))
 
     pub hole-told : {exit : List ℕ} {r : Placed} → walked .verdict ≡ verdict.InHole
         → ((a : Answer) (k D : ℕ) → Shows (walked .window) t k D → 0 < D → 64 * k < pair .top → HoleSays (way o negative) p pair negative k D a → Left p a exit r)

@@ -4,6 +4,7 @@ use mathlib.Core.Bool.{Bool, true, false, _&&_, true≢false}
 use mathlib.Core.List.{List}
 use Prim.Native.Nat.{ℕ, _<_}
 use native.Mathlib.Omega.{arith}
+use Rattle.depth.proofs.Exchange.{top-exchange, result-exchange, deciding-exchange}
 use Rattle.numbers.specs.Operand.{Operand}
 use Rattle.numbers.proofs.Limits.{two-digits}
 use Rattle.rounding.specs.Mode.{Mode, modeOf}
@@ -12,7 +13,6 @@ use Rattle.depth.specs.Columns.{topExponent, limbsUsed}
 use Rattle.depth.specs.Depth.{plus, result}
 use Rattle.place.specs.Placed.{limbsAfter}
 use Rattle.descent.specs.Ready.{Room}
-use Rattle.bridge.proofs.Exchange.{top-exchange, result-exchange, deciding-exchange}
 use Rattle.reports.specs.declared.report.Sum.{Sum}
 use Rattle.reports.specs.Exchanged.{exchangedSum}
 use Rattle.reports.specs.Summed.{sumOf, refusedSum, Reported}

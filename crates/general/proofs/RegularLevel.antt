@@ -6,6 +6,8 @@ use native.Mathlib.Numerals.{add-one}
 use native.Mathlib.Nat.{div-add-mod', zero-add}
 use native.Mathlib.Omega.{arith}
 use lib.ListN.{length}
+use Rattle.bridge.proofs.Told.{pair-same, pair-gap, pair-second, pair-first}
+use Rattle.descent.proofs.JudgingRange.{digits-some}
 use Rattle.columns.specs.Column.{readTo, columnOf}
 use mathlib.Core.Bool.{Bool, true, false, not, cond, _&&_, Bool·beq, true≢false}
 use mathlib.Core.Logic.{inl, inr}
@@ -31,8 +33,7 @@ use Rattle.settle.specs.Rows.{rowOf, seenRow, farRow}
 use Rattle.settle.specs.declared.rows.Row.{Row}
 use Rattle.settle.specs.declared.rows.Row.the-variants.{Exact, Plus, Minus, Hole}
 use Rattle.bridge.specs.Verdict.{pairOf, Ordered, exact?}
-use Rattle.columns.proofs.Reading.{read-fewer}
-use Rattle.bridge.proofs.Read.{read-none}
+use Rattle.columns.proofs.Reading.{read-fewer, read-early}
 use Rattle.bridge.proofs.Decision.{leads, equal-decision}
 use Rattle.bridge.proofs.Answers.{cancelled-sum}
 use Rattle.bridge.proofs.Covered.{columns-above}
@@ -47,7 +48,6 @@ use Rattle.descent.specs.Ready.{Room}
 use Rattle.general.specs.Level.{Level, Differs}
 use Rattle.reports.specs.Counts.{usedOf}
 use Rattle.reports.specs.Summed.{sumOf, Reported}
-use Rattle.ending.proofs.Finishing.{room-pos}
 use Rattle.ending.proofs.RegularEnd.{deep-enough}
 use Rattle.reports.proofs.Counts.{used-is}
 
@@ -59,7 +59,7 @@ read-next k l =
     sym (div-add-mod' (readTo (suc k) 0 l) (2 ^ 64)) ∙ ap (λ (n : ℕ). n * 2 ^ 64 + readTo (suc k) 0 l % 2 ^ 64) a
 
 pub level-start : (x y : List ℕ) → Below (2 ^ 64) x → Below (2 ^ 64) y → readTo 0 0 y ≡ readTo 0 0 x
-level-start x y a b = read-none 0 0 y b (omega arith) ∙ sym (read-none 0 0 x a (omega arith))
+level-start x y a b = read-early 0 y b 0 (omega arith) ∙ sym (read-early 0 x a 0 (omega arith))
 
 module _ (k : ℕ) (x y : List ℕ) (e : readTo k 0 y ≡ readTo k 0 x) (u v : ℕ) (f : u ≡ columnOf k 0 x) (g : v ≡ columnOf k 0 y) where
   pub next-less : v < u → readTo (suc k) 0 y < readTo (suc k) 0 x
@@ -76,27 +76,13 @@ module _ (k : ℕ) (x y : List ℕ) (e : readTo k 0 y ≡ readTo k 0 x) (u v : �
 
 -- ---- where a walk begins
 
-like-is : (a b : Bool) → cond a b (not b) ≡ Bool·beq a b
-like-is true true = refl
-like-is true false = refl
-like-is false true = refl
-like-is false false = refl
-
-same-is : (x y : Operand) → y .isZero ≡ false → pairOf x y .same ≡ Bool·beq (x .negative) (y .negative)
-unfolding pairOf
-same-is x y e = rw e (like-is (x .negative) (y .negative))
-
-gap-is : (x y : Operand) → y .isZero ≡ false → pairOf x y .gap ≡ x .exponent - y .exponent
-unfolding pairOf
-gap-is x y e = rw e refl
-
 pub course-larger : (x y : Operand) → WellFormed x → WellFormed y → x .isZero ≡ false → y .exponent < x .exponent → Course x y 0
 course-larger x y g h r l =
     let d : Ordered x y = record { first = g; second = h; regular = r; order = λ e. omega arith } in
     record {
       ordered = d;
       sum = λ f. refl;
-      level = λ f. read-none 0 (pairOf x y .gap) (y .limbs) (h .limb) zero-le ∙ sym (read-none 0 0 (x .limbs) (g .limb) zero-le);
+      level = λ f. read-early (pairOf x y .gap) (y .limbs) (h .limb) 0 zero-le ∙ sym (read-early 0 (x .limbs) (g .limb) 0 zero-le);
       larger = leads x y 1 d (omega arith) l;
       near = zero-le;
     }
@@ -105,8 +91,8 @@ pub course-like : (x y : Operand) → WellFormed x → WellFormed y → x .isZer
 course-like x y g h r e l b = record {
   ordered = record { first = g; second = h; regular = r; order = λ f. l };
   sum = λ f. refl;
-  level = λ f. absurd (true≢false (sym (same-is x y e ∙ b) ∙ f));
-  larger = λ f. absurd (true≢false (sym (same-is x y e ∙ b) ∙ f));
+  level = λ f. absurd (true≢false (sym (pair-same x y e ∙ b) ∙ f));
+  larger = λ f. absurd (true≢false (sym (pair-same x y e ∙ b) ∙ f));
   near = zero-le;
 }
 
@@ -115,7 +101,7 @@ unfolding mostPrecision limbsFor
 limbs-few x g = let a : x .precision ≤ 4096 = g .most in let b : length (x .limbs) ≡ (x .precision + 63) / 64 = g .count in omega arith
 
 no-gap : (x y : Operand) → Level x y → pairOf x y .gap ≡ 0
-no-gap x y l = gap-is x y (l .second-regular) ∙ rw (l .even) (go (x .exponent))
+no-gap x y l = pair-gap x y (l .second-regular) ∙ rw (l .even) (go (x .exponent))
   where
     go : (n : ℕ) → n - n ≡ 0
     go n = omega arith
@@ -123,7 +109,7 @@ no-gap x y l = gap-is x y (l .second-regular) ∙ rw (l .even) (go (x .exponent)
 pub course-level : (x y : Operand) (k : ℕ) → Level x y → k < max (length (x .limbs)) (length (y .limbs)) → readTo k 0 (y .limbs) ≡ readTo k 0 (x .limbs) → readTo (suc k) 0 (y .limbs) < readTo (suc k) 0 (x .limbs) → Course x y k
 course-level x y k l f e h = record {
   ordered = record { first = l .first; second = l .second; regular = l .first-regular; order = λ f. rw (l .even) (go (x .exponent)) };
-  sum = λ f. absurd (true≢false (sym f ∙ (same-is x y (l .second-regular) ∙ l .unlike)));
+  sum = λ f. absurd (true≢false (sym f ∙ (pair-same x y (l .second-regular) ∙ l .unlike)));
   level = λ f. rw (no-gap x y l) e;
   larger = λ f. rw (no-gap x y l) h;
   near = omega (arith, deep-enough, limbs-few x (l .first), limbs-few y (l .second));
@@ -142,14 +128,6 @@ level-turned x y l = record { first = l .second; second = l .first; first-regula
     turn false false e = e
 
 -- ---- exact cancellation
-
-second-is : (x y : Operand) → y .isZero ≡ false → pairOf x y .second ≡ y .precision
-unfolding pairOf
-second-is x y e = rw e refl
-
-first-is : (x y : Operand) → pairOf x y .first ≡ x .precision
-unfolding pairOf
-first-is x y = refl
 
 module _ (s : Pair) (k : ℕ) (some : s .second ≡ 0 → ⊥) where
   row-exact : s .first ≤ 64 * k → s .gap + s .second ≤ 64 * k → rowOf s k ≡ Exact
@@ -188,10 +166,10 @@ module _ (mode p n : ℕ) (room : Room p n) (x y : Operand) (l : Level x y) (k :
       go n = omega arith
 
   P-pos : 0 < p
-  P-pos = room-pos p n room
+  P-pos = digits-some p n room
 
   apart : pairOf x y .same ≡ false
-  apart = same-is x y (l .second-regular) ∙ l .unlike
+  apart = pair-same x y (l .second-regular) ∙ l .unlike
 
   first-fits : x .precision ≤ 64 * k
   first-fits = let a : x .precision ≤ 64 * length (x .limbs) = rw (l .first .count) (limbs-hold (x .precision)) in go (length (x .limbs)) (length (y .limbs)) a ke
@@ -233,20 +211,20 @@ module _ (mode p n : ℕ) (room : Room p n) (x y : Operand) (l : Level x y) (k :
       sym (read-fewer (k - 1) 1 (pairOf x y .gap) (y .limbs)) ∙ ap (λ (m : ℕ). m / 2 ^ (64 * 1)) (rw b level) ∙ read-fewer (k - 1) 1 0 (x .limbs)
 
   some : pairOf x y .second ≡ 0 → ⊥
-  some f = let a : y .precision ≡ 0 = sym (second-is x y (l .second-regular)) ∙ f in let b = two in omega arith
+  some f = let a : y .precision ≡ 0 = sym (pair-second x y (l .second-regular)) ∙ f in let b = two in omega arith
 
   reach-is : pairOf x y .gap + pairOf x y .second ≡ y .precision
-  reach-is = rw (no-gap x y l, second-is x y (l .second-regular)) (zero-add (y .precision))
+  reach-is = rw (no-gap x y l, pair-second x y (l .second-regular)) (zero-add (y .precision))
 
   row : rowOf (pairOf x y) k ≡ Exact
-  row = row-exact (pairOf x y) k some (rw (first-is x y) first-fits) (rw reach-is second-fits)
+  row = row-exact (pairOf x y) k some (rw (pair-first x y) first-fits) (rw reach-is second-fits)
 
   fixed : decideAt o p x y k ≡ true
   unfolding exact?
   fixed = equal-decision o p P-pos x y k d K apart level ∙ ap exact? row
 
   fewer : 1 < k → decideAt o p x y (k - 1) ≡ false
-  fewer h = equal-decision o p P-pos x y (k - 1) d (omega arith) apart (fewer-level h) ∙ row-open (pairOf x y) (k - 1) some (rw (first-is x y, reach-is) (longest h))
+  fewer h = equal-decision o p P-pos x y (k - 1) d (omega arith) apart (fewer-level h) ∙ row-open (pairOf x y) (k - 1) some (rw (pair-first x y, reach-is) (longest h))
 
   sum : add o p x y ≡ zeroOf (zeroSign o (x .negative) (y .negative))
   sum = cancelled-sum o p P-pos x y k d K (omega (arith, columns-above x (l .first) (l .first-regular) k (omega (arith, deep-enough, few)))) apart level row

@@ -2,9 +2,10 @@
 use mathlib.Core.Path.{_≡_, refl, sym, ap, _∙_, subst}
 use mathlib.Core.Bool.{true, false, not, cond, Bool·beq, true≢false}
 use mathlib.Core.List.{List}
-use Prim.Native.Nat.{ℕ, _-_, _^_, _≤_, max, zero-le}
+use Prim.Native.Nat.{ℕ, _-_, _^_, _≤_, zero-le}
 use native.Mathlib.Omega.{arith}
 use lib.ListN.{length}
+use Rattle.depth.proofs.Place.{top-ordered}
 use Rattle.numbers.specs.Limits.{counted}
 use Rattle.numbers.specs.Operand.{Operand, WellFormed, zeroLike}
 use Rattle.numbers.proofs.Digits.{zero-well-formed}
@@ -44,13 +45,6 @@ top-single x z a b = rw (a, b) (go (x .exponent))
   where
     go : (n : ℕ) → 0 ≡ n - n
     go n = omega arith
-
-top-ordered : (x y : Operand) → x .isZero ≡ false → y .isZero ≡ false → y .exponent ≤ x .exponent → topExponent x y ≡ x .exponent
-unfolding topExponent
-top-ordered x y a b h = rw (a, b) (go (x .exponent) (y .exponent) h)
-  where
-    go : (m n : ℕ) → n ≤ m → max m n ≡ m
-    go m n h = omega arith
 
 module _ (mode p n : ℕ) (room : Room p n) (x y : Operand) (from : ℕ) (course : Course x y from) (walked : Walked) (t : List ℕ) (st : Stopped (modeOf mode) p x y walked t) where
   pub reported : {exit : List ℕ} {placed : Placed} {s : Sum} (u v : ℕ) → Left p (add (modeOf mode) p x y) exit placed

@@ -12,8 +12,8 @@ use Rattle.limb.specs.Value.{valueOf, Below}
 use Rattle.numbers.specs.Limits.{leastPrecision, mostPrecision, counted, leastExponent, mostExponent, limbsFor}
 use Rattle.numbers.specs.Limbs.{limbsOf}
 use Rattle.numbers.specs.Operand.{Operand, spareBits, WellFormed}
-use Rattle.numbers.proofs.Limits.{limbs-hold, two-digits}
-use Rattle.numbers.proofs.Digits.{limbs-count, limbs-below, limbs-value}
+use Rattle.numbers.proofs.Limits.{two-digits}
+use Rattle.numbers.proofs.Digits.{limbs-count, limbs-below, limbs-value, digits-and-spare}
 use Rattle.rounding.specs.Mode.{Mode, way}
 use Rattle.rounding.specs.Answer.{Answer, zeroOf, number, tooLarge, tooSmall, rounded, answer}
 use Rattle.rounding.specs.Sum.{sumAt, add, subtract}
@@ -57,16 +57,12 @@ result-normal minus o p x y t e d r P h = answer-normal _ o p _ _ _ t e d r P h
 
 -- its p digits, with the spare bits 0
 module _ (p d : ℕ) (P : 0 < p) (lead : 2 ^ (p - 1) ≤ d) (few : d < 2 ^ p) where
-  width : p + spareBits p ≡ 64 * limbsFor p
-  unfolding spareBits
-  width = omega (arith, limbs-hold p)
-
   below : d * 2 ^ spareBits p < 2 ^ (64 * limbsFor p)
-  below = rw (← width, pow-add) (mul-lt-mul-of-pos-right few (pow-pos (spareBits p)))
+  below = rw (← digits-and-spare p, pow-add) (mul-lt-mul-of-pos-right few (pow-pos (spareBits p)))
 
   first : 2 ^ (64 * limbsFor p - 1) ≤ d * 2 ^ spareBits p
   first =
-      let e : p - 1 + spareBits p ≡ 64 * limbsFor p - 1 = omega (arith, width) in
+      let e : p - 1 + spareBits p ≡ 64 * limbsFor p - 1 = omega (arith, digits-and-spare p) in
       rw (← e, pow-add) (mul-le-mul-right (2 ^ spareBits p) lead)
 
   worth : valueOf (limbsOf (limbsFor p) (d * 2 ^ spareBits p)) ≡ d * 2 ^ spareBits p

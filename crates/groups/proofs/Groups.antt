@@ -10,7 +10,8 @@ use lib.Dec.{eqb}
 use lib.ListN.{length, take, drop}
 use lib.Seq.{take-at}
 use borrow.Rule.Slice.PartMut.{putMid}
-use Rattle.numbers.specs.Limits.{limbsFor}
+use Rattle.numbers.proofs.Limits.{limbs-more}
+use Rattle.numbers.specs.Limits.{limbsFor, mostPrecision}
 use Rattle.numbers.specs.Operand.{Operand, WellFormed}
 use Rattle.rounding.specs.Mode.{modeOf}
 use Rattle.checks.specs.declared.Number.{Number}
@@ -28,7 +29,7 @@ use Rattle.desklines.specs.declared.order.Order.{Order}
 use Rattle.desklines.specs.Order.{orderRefusal, orderOf, operationOf}
 use Rattle.desklines.specs.Answer.{refusalLine, sumLines, longestAnswer, operandOfLine, numberRefusal, earlier, linesRefusal, sumRefusal, groupRefusal}
 use Rattle.desklines.specs.Written.{mostLimbs, Tells, NumberRead, NumberHeld, AnswerTold, Answers}
-use Rattle.desklines.proofs.Tellings.{refusal-fits, refusal-length, limbs-few, sum-few}
+use Rattle.desklines.proofs.Tellings.{refusal-fits, refusal-length, sum-few}
 use Rattle.groups.proofs.Numbers.{part-length}
 use Rattle.groups.proofs.Formed.{reported-formed}
 
@@ -114,7 +115,7 @@ pair-limbs mode x y p n e = go (precisionHolds p) refl
     go : (b : Bool) → precisionHolds p ≡ b → pairRefusal mode x y p n ≡ pairRefusal mode x y p (limbsFor p)
     go false h = pair-any mode x y p n (limbsFor p) h
     go true h =
-        let k : n ≡ limbsFor p = omega (arith, e, limbs-few p (precision-range p h .1)) in
+        let k : n ≡ limbsFor p = omega (arith, e, limbs-more p mostPrecision (precision-range p h .1)) in
         ap (pairRefusal mode x y p) k
 
 refused-lines : (s : Sum) (limbs o e : List ℕ) (n : ℕ) (c : Refusal) → s .refusal ≡ c → (c .rule ≡ 0 → ⊥) → Tells (sumLines s limbs) o e n → Tells (refusalLine c) o e n

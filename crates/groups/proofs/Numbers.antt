@@ -1,28 +1,24 @@
 -- A number's line: too long, refused by its head, refused with its limbs, or read. Assumes nothing.
-use mathlib.Core.Path.{_≡_, refl, sym, ap, _∙_}
-use mathlib.Core.Bool.{true, cond}
+use mathlib.Core.Path.{_≡_, sym, ap, _∙_}
 use mathlib.Core.List.{List}
 use Prim.Native.Nat.{ℕ, _-_, _≤_, _<_, min}
 use native.Mathlib.Omega.{arith}
 use borrow.Author.Tests.{ne-eqb, lt-ltb, le-ltb}
-use lib.Dec.{eqb}
 use lib.ListN.{length, take, drop}
 use lib.Seq.{take-at, length-take-le}
 use borrow.Rule.Slice.PartMut.{putMid}
-use Rattle.numbers.specs.Limits.{limbsFor}
+use Rattle.lines.proofs.Accepted.{read-joined, refusal-is, number-is, line-precision}
+use Rattle.numbers.proofs.Limits.{limbs-more}
+use Rattle.numbers.specs.Limits.{limbsFor, mostPrecision}
 use Rattle.checks.specs.declared.Number.{Number}
 use Rattle.checks.specs.declared.Refusal.{Refusal}
 use Rattle.checks.specs.Number.{nothing}
-use Rattle.checks.specs.Check.{accepted, firstRefusal, precisionHolds}
-use Rattle.checks.proofs.Tables.{unrefused-all}
-use Rattle.checks.proofs.Accepted.{precision-range}
+use Rattle.checks.specs.Check.{accepted}
 use Rattle.lines.specs.declared.Head.{Head}
 use Rattle.lines.specs.Line.{longestLine}
-use Rattle.lines.specs.Reading.{numberIn, limbsRead, headTests, limbTests, headRefusal, readRefusal, answered, headOf, readOf, targetAfter}
-use Rattle.lines.proofs.Tests.{joined}
+use Rattle.lines.specs.Reading.{numberIn, limbsRead, headRefusal, readRefusal, answered, headOf, readOf, targetAfter}
 use Rattle.desklines.specs.Answer.{limbsOfLine, placed, numberRefusal}
 use Rattle.desklines.specs.Written.{mostLimbs, NumberRead, NumberHeld}
-use Rattle.desklines.proofs.Tellings.{limbs-few}
 
 pub part-length : (room : List ℕ) (n : ℕ) → n ≤ length room → length (take (n - 0) (drop 0 room)) ≡ n
 part-length room n h =
@@ -48,10 +44,6 @@ module _ (place : ℕ) (line : List ℕ) where
   unfolding numberRefusal
   too-long room r h e = named place 8 line room r (λ z. let n : _≡_ {A = ℕ} 8 0 = z in omega arith) e (simp (lt-ltb longestLine (length line) h))
 
-  read-joined : (n : ℕ) → readRefusal n line ≡ cond (eqb (headRefusal line .rule) 0) (firstRefusal (limbTests n line)) (headRefusal line)
-  unfolding readRefusal headRefusal headTests
-  read-joined n = joined (headTests line) (limbTests n line) refl
-
   module _ (short : length line ≤ longestLine) where
     placed-is : numberRefusal place line ≡ placed place (readRefusal (limbsFor (numberIn line .precision)) line)
     unfolding numberRefusal
@@ -61,37 +53,22 @@ module _ (place : ℕ) (line : List ℕ) where
     unfolding placed
     placed-refused rule e n = placed-is ∙ simp (e, ne-eqb rule 0 n)
 
-    head-rule : (h : Head) → h ≡ headOf line → h .refusal ≡ headRefusal line
-    unfolding headOf answered
-    head-rule h e = ap (λ (x : Head). x .refusal) e
-
     pub head-refused : (room : List ℕ) (h r : Head) → h ≡ headOf line → (h .refusal .rule ≡ 0 → ⊥) → r ≡ refusedHead (h .refusal .rule) place → NumberRead place line room r
     head-refused room h r e n f =
-        let k : headRefusal line .rule ≡ h .refusal .rule = ap (λ (x : Refusal). x .rule) (sym (head-rule h e)) in
+        let k : headRefusal line .rule ≡ h .refusal .rule = ap (λ (x : Refusal). x .rule) (sym (refusal-is line h e)) in
         let m : headRefusal line .rule ≡ 0 → ⊥ = λ z. n (sym k ∙ z) in
-        let j : readRefusal (limbsFor (numberIn line .precision)) line ≡ headRefusal line = read-joined (limbsFor (numberIn line .precision)) ∙ simp (ne-eqb (headRefusal line .rule) 0 m) in
+        let j : readRefusal (limbsFor (numberIn line .precision)) line ≡ headRefusal line = read-joined (limbsFor (numberIn line .precision)) line ∙ simp (ne-eqb (headRefusal line .rule) 0 m) in
         named place (h .refusal .rule) line room r n f (placed-refused (h .refusal .rule) (ap (λ (x : Refusal). x .rule) j ∙ k) n)
 
     -- where the head is accepted
     module _ (h : Head) (e : h ≡ headOf line) (z : h .refusal .rule ≡ 0) where
-      head-zero : headRefusal line .rule ≡ 0
-      head-zero = ap (λ (x : Refusal). x .rule) (sym (head-rule h e)) ∙ z
-
-      pub head-number : h .number ≡ numberIn line
-      unfolding headOf answered
-      head-number = ap (λ (x : Head). x .number) e ∙ simp (head-zero)
-
-      precision-holds : precisionHolds (numberIn line .precision) ≡ true
-      unfolding headRefusal headTests
-      precision-holds = unrefused-all (headTests line) refl head-zero .1 .1 .1 .0
-
       pub head-few : limbsFor (numberIn line .precision) ≤ mostLimbs
       unfolding mostLimbs
-      head-few = limbs-few (numberIn line .precision) (precision-range (numberIn line .precision) precision-holds .1)
+      head-few = limbs-more (numberIn line .precision) mostPrecision (line-precision line h e z .1)
 
       module _ (n : ℕ) (c : n ≡ min (limbsFor (h .number .precision)) mostLimbs) (room part last : List ℕ) (count : length part ≡ n) (r : Head) (f : r ≡ readOf (length part) line) where
         n-is : n ≡ limbsFor (numberIn line .precision)
-        n-is = let k : n ≡ min (limbsFor (numberIn line .precision)) mostLimbs = c ∙ ap (λ (x : Number). min (limbsFor (x .precision)) mostLimbs) head-number in omega (arith, k, head-few)
+        n-is = let k : n ≡ min (limbsFor (numberIn line .precision)) mostLimbs = c ∙ ap (λ (x : Number). min (limbsFor (x .precision)) mostLimbs) (number-is line h e z) in omega (arith, k, head-few)
 
         rule-is : r .refusal ≡ readRefusal (limbsFor (numberIn line .precision)) line
         unfolding readOf answered
@@ -110,7 +87,7 @@ module _ (place : ℕ) (line : List ℕ) where
             let u : targetAfter line part ≡ limbsRead (length part) line = simp w in
             record {
               refusal = ap (λ (y : Head). y .refusal) g ∙ sym (placed-is ∙ simp q);
-              number = λ i. ap (λ (y : Head). y .number) g ∙ head-number;
+              number = λ i. ap (λ (y : Head). y .number) g ∙ number-is line h e z;
               few = λ i. head-few;
               limbs = λ i. ap (take (limbsFor (numberIn line .precision))) x ∙ take-at last _ (limbsFor (numberIn line .precision)) (sym l) ∙ t ∙ u ∙ ap (λ (y : ℕ). limbsRead y line) (count ∙ n-is);
             }

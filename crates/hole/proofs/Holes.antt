@@ -1,16 +1,18 @@
 -- The hole: what is asked of the first operand's digits is read off its limbs.
-use mathlib.Core.Path.{_≡_, refl, sym, ap, _∙_, subst}
+use mathlib.Core.Path.{_≡_, sym, ap, _∙_, subst}
 use mathlib.Core.Logic.{inl, inr}
-use mathlib.Core.Bool.{Bool, true, false, not, cond, _&&_, Bool·beq}
+use mathlib.Core.Bool.{Bool, true, false, not, cond, _&&_, Bool·beq, and-comm}
 use mathlib.Core.List.{List}
-use Prim.Native.Nat.{ℕ, zero, suc, _+_, _-_, _*_, _/_, _%_, _^_, _≤_, _<_}
-use native.Mathlib.Nat.{le-trans, le-of-eq, lt-of-lt-of-le, le-div-iff-mul-le, mod-eq-sub-mod, mod-eq-of-lt, mul-le-mul-right, pow-succ'}
+use Prim.Native.Nat.{ℕ, suc, _+_, _-_, _*_, _/_, _%_, _^_, _≤_, _<_}
+use native.Mathlib.Nat.{le-trans, le-of-eq, lt-of-lt-of-le, le-div-iff-mul-le, mod-eq-sub-mod, mod-eq-of-lt, pow-succ'}
 use native.Mathlib.Omega.{arith}
 use borrow.Author.Tests.{eq-eqb, ne-eqb}
 use lib.Dec.{eqb}
 use lib.ListN.{length, getD}
 use lib.Pow.{pow-pos, pow-add, shr-lt, mod-pow-add, field}
 use lib.Ieee.{size}
+use Rattle.decide.proofs.HoleTest.{eqb-none}
+use Rattle.limb.proofs.Tests.{zero-times}
 use Rattle.limb.specs.Value.{valueOf, Below}
 use Rattle.limb.proofs.Value.{value-lt, base-pow}
 use Rattle.numbers.specs.Limits.{mostPrecision, limbsFor}
@@ -22,13 +24,13 @@ use Rattle.checks.proofs.Tests.{spare-lt}
 use Rattle.rounding.specs.Mode.{Mode, way}
 use Rattle.rounding.specs.Mode as mode
 use Rattle.rounding.proofs.Order.{le-or-lt}
-use Rattle.rounding.proofs.Even.{size-is}
+use Rattle.limb.proofs.Sizes.{size-is}
 use Rattle.decide.specs.Table.{some?, odd?, hole?, holeBySize}
 use Rattle.settle.specs.Ways.{wayIs}
 use Rattle.hole.specs.Hole.{Formed, Signs}
 use Rattle.settle.specs.declared.rows.Pair.{Pair}
 use Rattle.settle.specs.declared.rows.Way.{Way}
-use Rattle.settle.proofs.Units.{and-swap, odd-even}
+use Rattle.settle.proofs.Units.{odd-even}
 
 -- m has its first digit at P: the others are 0 where m is P
 only-first : (m P : ℕ) → P ≤ m → m < 2 * P → eqb (m % P) 0 ≡ eqb m P
@@ -36,13 +38,6 @@ only-first m P l h = ap (λ (v : ℕ). eqb v 0) (mod-eq-sub-mod l ∙ mod-eq-of-
   | inl k ↦ eq-eqb (m - P) 0 (omega arith) ∙ sym (eq-eqb m P (omega arith))
   | inr k ↦ ne-eqb (m - P) 0 (λ e. omega arith) ∙ sym (ne-eqb m P (λ e. omega arith))
 ]
-
-zero-times : (a B : ℕ) → 0 < B → eqb (a * B) 0 ≡ eqb a 0
-zero-times zero B h = eq-eqb (0 * B) 0 (omega arith)
-zero-times (suc a) B h = ne-eqb (suc a * B) 0 (λ e. omega (arith, mul-le-mul-right B (one a))) ∙ sym (ne-eqb (suc a) 0 (λ e. omega arith))
-  where
-    one : (a : ℕ) → 1 ≤ suc a
-    one a = omega arith
 
 module _ (p : ℕ) (l : List ℕ) (f : Formed p l) where
   abbrev b : ℕ
@@ -117,13 +112,6 @@ module _ (p : ℕ) (l : List ℕ) (f : Formed p l) where
 
 -- ---- the test by sizes
 
-none-between : (g f : ℕ) → f ≤ g → eqb g f ≡ not (some? (g - f))
-none-between g f l = go (g - f) refl
-  where
-    go : (d : ℕ) → g - f ≡ d → eqb g f ≡ not (some? d)
-    go zero e = eq-eqb g f (omega arith)
-    go (suc d) e = ne-eqb g f (λ k. omega arith)
-
 module _ (o : Mode) (p : ℕ) (a b : Bool) (s : Pair) (w : Way) (signs : Signs o a b s w) (m : ℕ) (power last : Bool) where
   pub hole-is : size m ≡ s .first → s .first ≤ s .gap → power ≡ eqb m (2 ^ (size m - 1)) → last ≡ odd? m → (digits : ℕ) → digits ≡ s .gap + 1 - cond (not (s .same) && power) 1 0
       → hole? (wayIs w) p digits (eqb (s .gap) (s .first) && last) ≡ holeBySize o p a b m (s .gap - s .first)
@@ -135,7 +123,7 @@ module _ (o : Mode) (p : ℕ) (a b : Bool) (s : Pair) (w : Way) (signs : Signs o
       ∙ go (Bool·beq a b) (odd? m && not (some? (s .gap - s .first)))
     where
       odd : (eqb (s .gap) (s .first) && last) ≡ (odd? m && not (some? (s .gap - s .first)))
-      odd = ap (λ (c : Bool). c && last) (none-between (s .gap) (s .first) l) ∙ and-swap (not (some? (s .gap - s .first))) last ∙ ap (λ (c : Bool). c && not (some? (s .gap - s .first))) la
+      odd = ap (λ (c : Bool). c && last) (eqb-none (s .gap) (s .first) l) ∙ and-comm (not (some? (s .gap - s .first))) last ∙ ap (λ (c : Bool). c && not (some? (s .gap - s .first))) la
 
       whole : s .gap + 1 ≡ size m + (s .gap - s .first) + 1
       whole = sum (size m) z

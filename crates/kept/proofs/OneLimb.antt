@@ -2,12 +2,13 @@
 use mathlib.Core.Path.{_≡_, refl, ap, _∙_}
 use mathlib.Core.Bool.{Bool, false}
 use mathlib.Core.List.{[], _∷_}
-use Prim.Native.Nat.{ℕ, zero, suc, _+_, _*_, _/_, _%_, _^_, _≤_, _<_}
+use Prim.Native.Nat.{ℕ, _+_, _*_, _/_, _%_, _^_, _≤_, _<_}
 use native.Mathlib.Nat.{mul-mod-left}
 use native.Mathlib.Omega.{arith}
 use lib.Pow.{shr-shr}
+use Rattle.limb.proofs.Value.{one-below}
 use Rattle.limb.specs.Carry.{bit}
-use Rattle.limb.specs.Value.{valueIn, Below}
+use Rattle.limb.specs.Value.{valueIn}
 use Rattle.kept.specs.Walk.{whole, Reaches, Holds, UnitAdded}
 use Rattle.kept.proofs.Moves.{cleared}
 use Rattle.kept.proofs.Reaching.{brought-whole, reach-plain}
@@ -16,10 +17,6 @@ use Rattle.kept.proofs.Unit.{unit-start, unit-turn}
 pub one-value : (x : ℕ) → valueIn (2 ^ 64) (x ∷ []) ≡ x
 unfolding valueIn
 one-value x = omega arith
-
-pub one-below : (x : ℕ) → x < 2 ^ 64 → Below (2 ^ 64) (x ∷ [])
-one-below x h zero = h
-one-below x h (suc i) = omega arith
 
 -- the unit is added to it
 pub one-added : (x add s k : ℕ) (out : Bool) → add ≡ 2 ^ k → s + 2 ^ 64 * bit out ≡ x + add + bit false → UnitAdded k (x ∷ []) out (s ∷ [])

@@ -7,13 +7,11 @@ use native.Mathlib.Nat.{le-antisymm, le-trans, lt-of-lt-of-le, mul-le-mul-left, 
 use native.Mathlib.Omega.{arith}
 use lib.ListN.{length, getD, take, drop, drop-of-length-le}
 use lib.Pow.{pow-pos, pow-add, shr-lt, shr-shr, high}
+use Rattle.limb.proofs.Tests.{true-false}
 use Rattle.limb.specs.Carry.{bit}
 use Rattle.limb.specs.Value.{valueIn, Below}
 use Rattle.limb.proofs.Value.{value-nil, value-split, value-drop, value-lt, value-take-lt, base-pow}
 use Rattle.kept.specs.Walk.{headed, whole, Reaches}
-
-true-false : {b : Bool} → b ≡ true → b ≡ false → ⊥
-true-false e f = let z : _≡_ {A = ℕ} 0 1 = cc in omega arith
 
 pub headed-true : (b : Bool) (t : List ℕ) → b ≡ true → headed b t ≡ 2 ^ (64 * length t) + valueIn (2 ^ 64) t
 unfolding headed bit

@@ -1,7 +1,7 @@
 -- What the tests on a remainder say of the theory's `lean` and `enough`.
 use mathlib.Core.Path.{_≡_, refl, sym, ap, _∙_}
 use mathlib.Core.Logic.{_⊎_, inl, inr}
-use mathlib.Core.Bool.{Bool, true, false, not, cond, _&&_, _||_}
+use mathlib.Core.Bool.{Bool, true, false, not, cond, _&&_, _||_, and-comm}
 use Prim.Native.Nat.{ℕ, zero, suc, _+_, _-_, _*_, _/_, _%_, _^_, _≤_, _<_, compare, Ordering, Ordering·lt, Ordering·eq, Ordering·gt}
 use native.Mathlib.Nat.{mod-lt}
 use native.Mathlib.Numerals.{add-one}
@@ -16,7 +16,7 @@ use Rattle.decide.specs.Class.{tie, off, lean, alike, enough}
 use Rattle.remnant.specs.Rest.{RestOf}
 use Rattle.remnant.specs.declared.rest.Rest.{Rest}
 use Rattle.lean.specs.Leaning.{rankOf, Flags}
-use Rattle.settle.proofs.Units.{and-swap, odd-even, one-or-even, power-halved}
+use Rattle.settle.proofs.Units.{odd-even, one-or-even, power-halved}
 
 pub alike-rank : (a b : Ordering) → eqb (rankOf a) (rankOf b) ≡ alike a b
 unfolding rankOf
@@ -32,7 +32,7 @@ alike-rank Ordering·gt Ordering·gt = refl
 
 module _ (q u r : ℕ) (z h a o : Bool) (f : Flags q u r z h a o) (more : Bool) where
   nothing : (not more && eqb r 0) ≡ (z && not more)
-  nothing = ap (λ (b : Bool). not more && b) (sym (f .is-zero)) ∙ and-swap (not more) z
+  nothing = ap (λ (b : Bool). not more && b) (sym (f .is-zero)) ∙ and-comm (not more) z
 
   -- the remainder is 0 and nothing lies below it
   pub lean-even : (w : Way) → (z && not more) ≡ true → lean w q u r more ≡ Ordering·eq

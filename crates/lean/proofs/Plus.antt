@@ -1,6 +1,6 @@
 -- The least sum is D and perhaps some more, the greatest D or the next unit and perhaps some more.
 use mathlib.Core.Path.{_≡_, sym, ap, _∙_}
-use mathlib.Core.Bool.{Bool, true, false, _||_}
+use mathlib.Core.Bool.{Bool, true, false, _||_, and-false}
 use Prim.Native.Nat.{ℕ, suc, _+_, _-_, _/_, _%_, _^_, _≤_, Ordering}
 use native.Mathlib.Nat.{mod-lt}
 use native.Mathlib.Omega.{arith}
@@ -15,7 +15,6 @@ use Rattle.decide.proofs.Settled.{enough-true, enough-le}
 use Rattle.remnant.specs.Rest.{RestOf}
 use Rattle.remnant.specs.declared.rest.Rest.{Rest}
 use Rattle.lean.specs.Leaning.{Flags}
-use Rattle.settle.proofs.Units.{and-false}
 use Rattle.lean.proofs.Flags.{flags-of, flags-next, next-below}
 
 module _ (w : Way) (p D : ℕ) (least : Bool) (i : ℕ) (most : Bool) where

@@ -6,6 +6,7 @@ use native.Mathlib.Omega.{arith}
 use mathlib.Core.List.{List, [], _∷_, _++_}
 use lib.ListN.{length, getD, take, drop, set}
 use lib.Pow.{pow-add}
+use lib.Seq.{getD-drop}
 use Rattle.limb.specs.Value.{valueIn, Below}
 
 module _ (B : ℕ) where
@@ -24,6 +25,10 @@ module _ (B : ℕ) where
   value-split zero l = rw pow-zero (omega arith)
   value-split (suc n) [] = omega arith
   value-split (suc n) (x ∷ xs) = omega (arith, ap (λ (m : ℕ). B * m) (value-split n xs), ap (λ (m : ℕ). m * valueIn B (drop n xs)) (pow-succ' B n))
+
+  -- the same where the limbs below the cut are those of another list
+  pub value-kept : (n : ℕ) (before after : List ℕ) → take n after ≡ take n before → valueIn B after ≡ valueIn B (take n before) + B ^ n * valueIn B (drop n after)
+  value-kept n before after e = value-split n after ∙ ap (λ (l : List ℕ). valueIn B l + B ^ n * valueIn B (drop n after)) e
 
   -- one limb more from the front; past the end the limb is 0
   pub value-take : (i : ℕ) (l : List ℕ) → valueIn B (take (suc i) l) ≡ valueIn B (take i l) + B ^ i * getD l i 0
@@ -53,6 +58,9 @@ module _ (B : ℕ) where
   value-lt (x ∷ xs) h =
       let r = value-lt xs (λ i. h (suc i)) in
       omega (arith, h zero, mul-le-mul-left B r, pow-succ' B (length xs))
+
+  pub below-part : (n : ℕ) (l : List ℕ) → Below B l → Below B (drop n l)
+  below-part n l h i = rw (getD-drop n l i 0) (h (n + i))
 
   pub value-take-lt : (n : ℕ) (l : List ℕ) → Below B l → valueIn B (take n l) < B ^ n
   unfolding valueIn
@@ -99,3 +107,14 @@ module _ (B : ℕ) where
 pub base-pow : (n : ℕ) → (2 ^ 64) ^ n ≡ 2 ^ (64 * n)
 base-pow zero = refl
 base-pow (suc n) = pow-succ' (2 ^ 64) n ∙ ap (λ (m : ℕ). 2 ^ 64 * m) (base-pow n) ∙ sym (pow-add 2 64 (64 * n)) ∙ ap (λ (m : ℕ). 2 ^ m) (omega arith)
+
+-- ---- one limb
+
+pub one-below : (x : ℕ) → x < 2 ^ 64 → Below (2 ^ 64) (x ∷ [])
+one-below x h zero = h
+one-below x h (suc i) = omega arith
+
+pub one-written : (t : List ℕ) (v : ℕ) → length t ≡ 1 → set t 0 v ≡ v ∷ []
+one-written [] v h = absurd (omega arith)
+one-written (x ∷ []) v h = refl
+one-written (x ∷ y ∷ t) v h = absurd (omega arith)

@@ -7,7 +7,7 @@ use native.Mathlib.Omega.{arith}
 use lib.Dec.{eqb}
 use lib.ListN.{length, replicate}
 use borrow.Author.Tests.{eq-eqb, ne-eqb, eqb-true}
-use Rattle.numbers.specs.Limits.{leastPrecision, limbsFor}
+use Rattle.numbers.specs.Limits.{leastPrecision, limbsFor, mostPrecision}
 use Rattle.numbers.proofs.Limits.{two-digits, limbs-hold}
 use Rattle.checks.specs.declared.Number.{Number}
 use Rattle.checks.specs.declared.Refusal.{Refusal}
@@ -43,7 +43,7 @@ unfolding formHolds operandOf
 zero-form x l z = rw z
 
 module _ (line : List ℕ) (h : Head) (e : h ≡ headOf line) where
-  refusal-is : h .refusal ≡ headRefusal line
+  pub refusal-is : h .refusal ≡ headRefusal line
   unfolding headOf answered
   refusal-is = ap (λ (g : Head). g .refusal) e
 
@@ -54,7 +54,7 @@ module _ (line : List ℕ) (h : Head) (e : h ≡ headOf line) where
       refused-read line entry (headRefusal line) h f (read-joined (length entry) line ∙ rw (ne-eqb (headRefusal line .rule) 0 f)) (e ∙ rw (ne-eqb (headRefusal line .rule) 0 f))
 
   module _ (z : h .refusal .rule ≡ 0) where
-    unrefused : headRefusal line .rule ≡ 0
+    pub unrefused : headRefusal line .rule ≡ 0
     unrefused = rw refusal-is at z
 
     pub head-is : h ≡ record { number = numberIn line; refusal = accepted }
@@ -76,9 +76,9 @@ module _ (line : List ℕ) (h : Head) (e : h ≡ headOf line) where
     unfolding headTests
     line-size = eqb-true (length line) (lineSize (numberIn line)) (all-hold .1 .1 .1 .1 .0)
 
-    pub line-precision : leastPrecision ≤ numberIn line .precision
+    pub line-precision : (leastPrecision ≤ numberIn line .precision) × (numberIn line .precision ≤ mostPrecision)
     unfolding headTests
-    line-precision = precision-range (numberIn line .precision) (all-hold .1 .1 .1 .0) .0
+    line-precision = precision-range (numberIn line .precision) (all-hold .1 .1 .1 .0)
 
     -- the head is accepted, so the later tests decide
     later : (n : ℕ) → readRefusal n line ≡ firstRefusal (limbTests n line)
@@ -99,7 +99,7 @@ module _ (line : List ℕ) (h : Head) (e : h ≡ headOf line) where
         count = length-count (numberIn line .precision) (length entry) right
 
         pub some-limbs : 0 < length entry
-        some-limbs = omega (arith, count, line-precision, two-digits, limbs-hold (numberIn line .precision))
+        some-limbs = omega (arith, count, line-precision .0, two-digits, limbs-hold (numberIn line .precision))
 
         read-form : formHolds (operandOf (h .number) (limbsIn (length entry) line)) ≡ formHolds (operandIn line)
         unfolding operandIn

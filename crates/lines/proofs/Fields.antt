@@ -14,13 +14,13 @@ use mir.Facts.{toZ-ofZ}
 use lib.ListN.{length, take, drop, getD, set, length-drop}
 use lib.Seq.{take-take, length-take-le}
 use borrow.Author.Tests.{lt-ltb, le-ltb, le-leb, eq-eqb, ne-eqb}
+use Rattle.limb.proofs.Tests.{both-true}
 use Rattle.numbers.specs.Limits.{bias}
 use Rattle.checks.specs.declared.Number.{Number}
 use Rattle.checks.specs.declared.Kind.{Kind}
 use Rattle.checks.specs.declared.Kind.the-variants.{Regular, Zero}
 use Rattle.checks.specs.Number.{operandOf, exponentOf}
 use Rattle.checks.specs.Check.{formHolds, topBitHolds, spareBitsHold}
-use Rattle.checks.proofs.Tables.{both}
 use Rattle.text.specs.Digits.{allDigits, worth}
 use Rattle.text.proofs.Digits.{digits-take, digits-drop}
 use Rattle.text.proofs.Numeral.{worth-lt, drop-set}
@@ -37,7 +37,7 @@ within (suc at) n (suc m) (x ∷ l) h = within at n m l (omega arith)
 module _ (line : List ℕ) where
   pub ends : digitsHold line ≡ true → (eqb (getD line (length line - 1) 0) lineFeed ≡ true) × (allDigits (take (length line - 1) line) ≡ true)
   unfolding digitsHold
-  ends h = both (eqb (getD line (length line - 1) 0) lineFeed) (allDigits (take (length line - 1) line)) h
+  ends h = both-true (eqb (getD line (length line - 1) 0) lineFeed) (allDigits (take (length line - 1) line)) h
 
   pub field-digits : (at n : ℕ) → digitsHold line ≡ true → at + n < length line → allDigits (take n (drop at line)) ≡ true
   field-digits at n h g =

@@ -1,6 +1,6 @@
 -- No line is longer than the longest, which has 1,039 bytes and is attained; none is shorter than the shortest. Assumes nothing.
 use mathlib.Core.Path.{_≡_, refl, _∙_}
-use mathlib.Core.Bool.{Bool, true, false}
+use mathlib.Core.Bool.{Bool, true, false, cond}
 use mathlib.Core.List.{List, [], _∷_, _++_}
 use Prim.Native.Nat.{ℕ, _+_, _-_, _*_, _^_, _≤_}
 use native.Mathlib.Nat.{le-of-eq}
@@ -8,6 +8,7 @@ use native.Mathlib.Omega.{arith}
 use lib.IntN.{pos}
 use lib.ListN.{length, replicate}
 use borrow.Author.Tests.{le-leb}
+use Rattle.numbers.proofs.Limits.{limbs-more}
 use Rattle.numbers.specs.Limits.{leastPrecision, mostPrecision, bias, counted, leastExponent, mostExponent, limbsFor}
 use Rattle.numbers.specs.Operand.{spareBits}
 use Rattle.checks.specs.declared.Number.{Number}
@@ -25,22 +26,18 @@ pub longest-bytes : longestLine ≡ 1039
 unfolding longestLine shortestLine mostPrecision limbsFor
 longest-bytes = refl
 
-limbs-more : (p q : ℕ) → p ≤ q → limbsFor p ≤ limbsFor q
-unfolding limbsFor
-limbs-more p q h = omega arith
+pub line-fits : (x : Number) (l : List ℕ) → length l ≡ limbsFor (x .precision) → x .precision ≤ mostPrecision → length (lineOf x l) ≤ longestLine
+unfolding longestLine lineSize
+line-fits x l n h = rw (size-is x l n) (go (isZeroKind (x .kind)) (limbs-more (x .precision) mostPrecision h))
+  where
+    go : (b : Bool) → limbsFor (x .precision) ≤ limbsFor mostPrecision → cond b shortestLine (shortestLine + 16 * limbsFor (x .precision)) ≤ shortestLine + 16 * limbsFor mostPrecision
+    go true m = omega arith
+    go false m = omega arith
 
 module _ (x : Number) (l : List ℕ) (room : ℕ) (a : writeRefusal x l room ≡ accepted) where
   pub at-most : length (lineOf x l) ≤ longestLine
-  unfolding longestLine writeRefusal lineSize
-  at-most =
-      let h = accepted-all _ refl a in
-      let n : length l ≡ limbsFor (x .precision) = length-count (x .precision) (length l) (h .1 .0) in
-      let m : limbsFor (x .precision) ≤ limbsFor mostPrecision = limbs-more (x .precision) mostPrecision (precision-range (x .precision) (h .0) .1) in
-      rw (size-is x l n) (go m (isZeroKind (x .kind)) refl)
-    where
-      go : limbsFor (x .precision) ≤ limbsFor mostPrecision → (b : Bool) → isZeroKind (x .kind) ≡ b → lineSize x ≤ shortestLine + 16 * limbsFor mostPrecision
-      go m true z = rw z (omega arith)
-      go m false z = rw z (omega (arith, m))
+  unfolding writeRefusal
+  at-most = let h = accepted-all _ refl a in line-fits x l (length-count (x .precision) (length l) (h .1 .0)) (precision-range (x .precision) (h .0) .1)
 
 -- attained by every regular number of the largest precision
 pub attained : (x : Number) (l : List ℕ) → isZeroKind (x .kind) ≡ false → x .precision ≡ mostPrecision → length l ≡ limbsFor (x .precision) → length (lineOf x l) ≡ longestLine

@@ -6,11 +6,12 @@ use Prim.Native.Nat.{ℕ, _≤_, _<_}
 use lib.Dec.{eqb}
 use lib.ListN.{length}
 use borrow.Author.Tests.{le-leb, lt-leb, eq-eqb, ne-eqb, not-true}
+use Rattle.limb.proofs.Tests.{both-true}
 use Rattle.checks.specs.declared.Number.{Number}
 use Rattle.checks.specs.declared.Refusal.{Refusal}
 use Rattle.checks.specs.Number.{operandOf, nothing}
 use Rattle.checks.specs.Check.{Test, accepted, firstRefusal, precisionHolds, exponentHolds}
-use Rattle.checks.proofs.Tables.{allNamed, both}
+use Rattle.checks.proofs.Tables.{allNamed}
 use Rattle.lines.specs.declared.Head.{Head}
 use Rattle.lines.specs.Line.{shortestLine, lineSize}
 use Rattle.lines.specs.Reading.{kindIn, numberIn, operandIn, digitsHold, headTests, headRefusal, answered, headOf}
@@ -19,11 +20,11 @@ use Rattle.lines.specs.Reading.{kindIn, numberIn, operandIn, digitsHold,
 pub joined : (ts us : List Test) → allNamed ts ≡ true → firstRefusal (ts ++ us) ≡ cond (eqb (firstRefusal ts .rule) 0) (firstRefusal us) (firstRefusal ts)
 unfolding firstRefusal accepted
 joined [] us n = refl
-joined (t ∷ ts) us n = go (t .holds) refl (joined ts us (both (not (eqb (t .rule) 0)) (allNamed ts) n .1))
+joined (t ∷ ts) us n = go (t .holds) refl (joined ts us (both-true (not (eqb (t .rule) 0)) (allNamed ts) n .1))
   where
     go : (b : Bool) → t .holds ≡ b → firstRefusal (ts ++ us) ≡ cond (eqb (firstRefusal ts .rule) 0) (firstRefusal us) (firstRefusal ts) → firstRefusal ((t ∷ ts) ++ us) ≡ cond (eqb (firstRefusal (t ∷ ts) .rule) 0) (firstRefusal us) (firstRefusal (t ∷ ts))
     go true h k = rw h k
-    go false h k = rw (h, not-true (eqb (t .rule) 0) (both (not (eqb (t .rule) 0)) (allNamed ts) n .0))
+    go false h k = rw (h, not-true (eqb (t .rule) 0) (both-true (not (eqb (t .rule) 0)) (allNamed ts) n .0))
 
 module _ (line : List ℕ) where
   pub refused-head : (r : Refusal) (h : Head) → eqb (r .rule) 0 ≡ false → headRefusal line ≡ r → h ≡ record { number = nothing; refusal = r } → h ≡ headOf line

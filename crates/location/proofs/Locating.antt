@@ -4,7 +4,7 @@ use mathlib.Core.Path.{_≡_, refl, sym, ap, _∙_}
 use mathlib.Core.Logic.{_⊎_, inl, inr}
 use mathlib.Core.Bool.{Bool, true, false, not, _||_}
 use Prim.Native.Nat.{ℕ, zero, suc, _+_, _-_, _*_, _/_, _%_, _^_, _≤_, _<_, compare, Ordering, Ordering·lt, Ordering·eq, Ordering·gt}
-use native.Mathlib.Nat.{mul-add-mod-self-right, div-eq-of-lt-le, div-add-mod', mul-assoc, mul-le-mul-right, suc-mul}
+use native.Mathlib.Nat.{mul-add-mod-self-right, div-eq-of-lt-le, mul-assoc, mul-le-mul-right, suc-mul}
 use native.Mathlib.Decide.{decLe}
 use native.Mathlib.Omega.{arith}
 use lib.Dec.{eqb}
@@ -15,7 +15,7 @@ use Rattle.limb.specs.Carry.{bit}
 use Rattle.limb.proofs.Carry.{bit-le}
 use Rattle.rounding.specs.Mode.{Way, near, under, over}
 use Rattle.rounding.specs.Select.{quotient}
-use Rattle.rounding.proofs.Order.{Cmp, cmp, compare-at}
+use Rattle.rounding.proofs.Order.{Cmp, cmp, compare-at, zero-or, units, remainder}
 use Rattle.location.specs.declared.Location.{Location}
 use Rattle.location.specs.declared.Location.the-variants.{Exact, Lower, Tie, Upper}
 use Rattle.location.specs.Location.{fromMiddle, locationOf, goesUp, inexact, side}
@@ -116,10 +116,6 @@ module _ (r h B g t : ℕ) (lt : g < B) (one : t ≤ 1) where
   none-below n Ordering·gt c (inr p) =
       let k = mul-le-mul-right B c in let l = mul-le-mul-right B p in both Ordering·gt (2 * r + 0) (omega arith) (omega arith) (omega arith) (omega (arith, suc-mul h B))
 
-zero-or : (r : ℕ) → (r ≡ 0) ⊎ (0 < r)
-zero-or zero = inl refl
-zero-or (suc r) = inr (omega arith)
-
 -- digits in a finer unit count only as something
 pub finer-rest : (r h B g : ℕ) (more : Bool) → g < B → locationOf (2 * r + bit (not (eqb g 0) || more)) (h * 4) ≡ locationOf (2 * (r * B + g) + bit more) (h * B * 4)
 unfolding bit fine
@@ -164,18 +160,9 @@ one-limb top guard width le =
 -- ---- what is selected, and on which side of the exact size it lies
 
 module _ (q u x : ℕ) (lt : x < u) where
-  parts-div : (q * u + x) / u ≡ q
-  parts-div = div-eq-of-lt-le u (omega arith) (omega arith)
-
-  parts-mod : (q * u + x) % u ≡ x
-  parts-mod = go ((q * u + x) % u) (ap (λ (z : ℕ). z * u + (q * u + x) % u) (sym parts-div) ∙ div-add-mod' (q * u + x) u)
-    where
-      go : (v : ℕ) → q * u + v ≡ q * u + x → v ≡ x
-      go v e = omega arith
-
   near-is : quotient near (q * u + x) u ≡ nearest q (compare (x * 2) u)
   unfolding quotient
-  near-is = ap (λ (z : ℕ). nearest z (compare ((q * u + x) % u * 2) u)) parts-div ∙ ap (λ (z : ℕ). nearest q (compare (z * 2) u)) parts-mod
+  near-is = ap (λ (z : ℕ). nearest z (compare ((q * u + x) % u * 2) u)) (units q u x lt) ∙ ap (λ (z : ℕ). nearest q (compare (z * 2) u)) (remainder q u x lt)
 
   pub selected-at : (w : Way) → quotient w (q * u + x) u ≡ q + bit (goesUp w (locationOf x u) (eqb (q % 2) 1))
   unfolding quotient goesUp bit fromMiddle
@@ -186,7 +173,7 @@ module _ (q u x : ℕ) (lt : x < u) where
 
       none : (w : Way) → x ≡ 0 → quotient w (q * u + x) u ≡ q + bit (goesUp w (locationOf x u) (eqb (q % 2) 1))
       none near e = keep _ (near-is ∙ ap (nearest q) (compare-at Ordering·lt (x * 2) u (omega arith))) near e
-      none under e = keep _ parts-div under e
+      none under e = keep _ (units q u x lt) under e
       none over e = keep _ (div-eq-of-lt-le u (omega arith) (omega arith)) over e
 
       tie : q + q % 2 ≡ q + bit (eqb (q % 2) 1)
@@ -205,7 +192,7 @@ module _ (q u x : ℕ) (lt : x < u) where
           table Ordering·lt = omega arith
           table Ordering·eq = tie
           table Ordering·gt = omega arith
-      some under h o c = parts-div ∙ rw (at-something o x u h c) (table o)
+      some under h o c = (units q u x lt) ∙ rw (at-something o x u h c) (table o)
         where
           table : (o : Ordering) → q ≡ q + bit (goesUp under (fromMiddle o) (eqb (q % 2) 1))
           table Ordering·lt = omega arith

@@ -4,6 +4,7 @@ use mathlib.Core.Bool.{Bool, true, false, true≢false}
 use Prim.Native.Nat.{ℕ, _+_, _-_, _*_, _^_, _≤_, _<_}
 use native.Mathlib.Omega.{arith}
 use lib.Ieee.{size}
+use Rattle.limb.proofs.Carry.{bit-le}
 use Rattle.limb.specs.Carry.{bit}
 use Rattle.numbers.specs.Operand.{Operand}
 use Rattle.rounding.specs.Mode.{Mode, Way, way}
@@ -78,11 +79,7 @@ module _ (p : ℕ) (P : 0 < p) (o : Mode) (x y : Operand) (d : Ordered x y) (lea
   module _ (inside : Inside p D) where
     pub plus-says : (least next most : Bool) → rowOf (pairOf x y) 1 ≡ Plus least next most → Says (2 * (D * 2 ^ 64) + bit least)
     unfolding settledBy moreOf inner?
-    plus-says least next most is = inner-says (inside .longer) (Plus least next most) is refl (inside-plus p D inside w least (bit next) (one-most next) most)
-      where
-        one-most : (b : Bool) → bit b ≤ 1
-        one-most true = unfold bit in omega arith
-        one-most false = unfold bit in omega arith
+    plus-says least next most is = inner-says (inside .longer) (Plus least next most) is refl (inside-plus p D inside w least (bit next) (bit-le next) most)
 
     pub minus-says : (most : Bool) → rowOf (pairOf x y) 1 ≡ Minus most → Says (2 * (D * 2 ^ 64) + bit most)
     unfolding settledBy moreOf inner?

@@ -8,6 +8,7 @@ use native.Mathlib.Omega.{arith}
 use borrow.Author.Tests.{lt-ltb, le-ltb, le-leb, lt-leb, ne-eqb}
 use lib.Dec.{ltb, leb, eqb}
 use mir.Val.{boolByte}
+use Rattle.depth.proofs.Exchange.{top-exchange, deciding-exchange}
 use Rattle.numbers.specs.Limits.{counted, leastPrecision, limbsFor}
 use Rattle.numbers.specs.Operand.{Operand, WellFormed}
 use Rattle.numbers.proofs.Limits.{two-digits}
@@ -26,7 +27,6 @@ use Rattle.settle.specs.declared.rows.Pair.{Pair}
 use Rattle.columns.specs.Column.{readTo}
 use Rattle.bridge.specs.Verdict.{pairOf, Ordered}
 use Rattle.bridge.proofs.Told.{top-is}
-use Rattle.bridge.proofs.Exchange.{top-exchange, deciding-exchange}
 use Rattle.descent.specs.Course.{Course}
 use Rattle.ending.specs.Finishing.{Left}
 use Rattle.reports.specs.Signed.{Signed}

@@ -26,7 +26,7 @@ use Rattle.place.specs.declared.Placed.{Placed}
 use Rattle.place.specs.Placed.{runNumber, runRule}
 use Rattle.place.specs.Rounded.{roundedPlaced, roundedLimbs}
 use Rattle.columns.specs.Column.{readTo}
-use Rattle.remnant.proofs.Sizes.{size-is}
+use Rattle.limb.proofs.Sizes.{size-is}
 use Rattle.settle.specs.Rows.{rowOf}
 use Rattle.settle.specs.declared.rows.Row.the-variants.{Exact, Plus}
 use Rattle.bridge.specs.Verdict.{pairOf, Ordered, Leads, readSum}

@@ -5,7 +5,7 @@ use Prim.Native.Nat.{_+_, _<_}
 use native.Mathlib.Omega.{arith}
 use borrow.Author.Tests.{leb-true, leb-false, lt-ltb, le-ltb, ne-eqb}
 use lib.Dec.{ltb, leb, eqb}
-use Rattle.decide.proofs.Settled.{and-true}
+use Rattle.limb.proofs.Tests.{both-true}
 use Rattle.settle.specs.Rows.{rowOf}
 use Rattle.settle.specs.declared.rows.Pair.{Pair}
 use Rattle.settle.specs.declared.rows.Row.the-variants.{Exact, Plus, Minus, Hole}
@@ -31,7 +31,7 @@ module _ (s : Pair) (some : 0 < s .second) where
   pub hole-row : isHole s ≡ true → rowOf s 1 ≡ Hole
   unfolding rowOf
   hole-row h =
-      let t = and-true (leb (s .first) 64) (leb 64 (s .gap)) h in
+      let t = both-true (leb (s .first) 64) (leb 64 (s .gap)) h in
       go (leb (s .gap + s .second) 64) refl (t .0) (t .1)
     where
       go : (b : Bool) → leb (s .gap + s .second) 64 ≡ b → leb (s .first) 64 ≡ true → leb 64 (s .gap) ≡ true → rowOf s 1 ≡ Hole

@@ -3,14 +3,17 @@ use mathlib.Core.Path.{_≡_, refl, sym, ap, _∙_, subst}
 use mathlib.Core.Bool.{Bool, true, false, _||_, true≢false}
 use mathlib.Core.List.{[], _∷_}
 use Prim.Native.Nat.{ℕ, suc, _+_, _-_, _*_, _/_, _%_, _^_, _≤_, _<_}
-use native.Mathlib.Nat.{add-mul-mod-self-left, div-eq-of-lt, lt-of-lt-of-le}
+use native.Mathlib.Nat.{div-eq-of-lt, lt-of-lt-of-le}
 use native.Mathlib.Omega.{arith}
 use borrow.Author.Tests.{leb-true}
 use mir.Val.{boolByte}
 use lib.Dec.{leb}
 use lib.Count.{leadingZeros, leading-top}
 use lib.Ieee.{size}
-use lib.Pow.{pow-add, pow-mono}
+use lib.Pow.{pow-mono}
+use Rattle.descent.proofs.Inside.{inside-by}
+use Rattle.remnant.proofs.Resting.{word-low}
+use Rattle.limb.proofs.Tests.{both-true, second-true}
 use Rattle.limb.specs.Value.{valueIn}
 use Rattle.limb.specs.Carry.{bit}
 use Rattle.limb.proofs.Carry.{bit-byte}
@@ -21,8 +24,7 @@ use Rattle.rounding.specs.Mode.{Mode, way}
 use Rattle.rounding.specs.Answer.{rounded}
 use Rattle.rounding.specs.Sum.{add}
 use Rattle.decide.specs.Decide.{decideAt}
-use Rattle.decide.proofs.Settled.{and-true}
-use Rattle.remnant.proofs.Sizes.{size-is}
+use Rattle.limb.proofs.Sizes.{size-is}
 use Rattle.place.specs.Placed.{runNumber}
 use Rattle.settle.specs.Rows.{rowOf}
 use Rattle.settle.specs.declared.rows.Pair.{Pair}
@@ -87,27 +89,11 @@ plain p pair D fixed carry limb more e pos h = record { led = led carry e; answe
 -- ---- the digits of a column
 
 low-digits : (sum c D e : ℕ) → e ≤ 64 → sum + 2 ^ 64 * c ≡ D → D % 2 ^ e ≡ sum % 2 ^ e
-low-digits sum c D e h is = ap (λ (n : ℕ). n % 2 ^ e) (sym is ∙ apart-is) ∙ add-mul-mod-self-left sum (2 ^ e) (2 ^ (64 - e) * c)
-  where
-    base : 2 ^ 64 ≡ 2 ^ e * 2 ^ (64 - e)
-    base = ap (λ (m : ℕ). 2 ^ m) (let z : 64 ≡ e + (64 - e) = omega arith in z) ∙ pow-add 2 e (64 - e)
-
-    spread : (B E F : ℕ) → B ≡ E * F → sum + B * c ≡ sum + E * (F * c)
-    spread B E F e = rw e (omega arith)
-
-    apart-is : sum + 2 ^ 64 * c ≡ sum + 2 ^ e * (2 ^ (64 - e) * c)
-    apart-is = spread (2 ^ 64) (2 ^ e) (2 ^ (64 - e)) base
+low-digits sum c D e h is = ap (λ (n : ℕ). n % 2 ^ e) (let z : D ≡ c * 2 ^ 64 + sum = omega arith in z) ∙ word-low c sum e h
 
 -- what the test on the last digits says of D, which has n digits
 inside-of : (p n sum c D : ℕ) → sum + 2 ^ 64 * c ≡ D → size D ≡ n → p < n → n - p ≤ 64 → (1 ≤ sum % 2 ^ (n - p - 1)) × (sum % 2 ^ (n - p - 1) + 1 < 2 ^ (n - p - 1)) → Inside p D
-inside-of p n sum c D is size-D long few t = record {
-  longer = rw size-D long;
-  some = rw (size-D, low) (t .0);
-  below = rw (size-D, low) (t .1);
-}
-  where
-    low : D % 2 ^ (n - p - 1) ≡ sum % 2 ^ (n - p - 1)
-    low = low-digits sum c D (n - p - 1) (omega arith) is
+inside-of p n sum c D is size-D long few t = inside-by p n D sum size-D long (low-digits sum c D (n - p - 1) (omega arith) is) t
 
 pub digits-are : (limb : ℕ) → 0 < limb → limb < 2 ^ 64 → size limb ≡ 64 - leadingZeros 64 limb
 digits-are limb h l = let t = leading-top 64 limb h l in size-is limb (t .0) (t .2) (t .3) ∙ (let z : suc (t .0) ≡ 64 - leadingZeros 64 limb = omega (arith, t .1) in z)
@@ -124,10 +110,6 @@ either : (a b c : Bool) → ((a || b) || c) ≡ true → a ≡ false → b ≡ f
 either true b c t e f = absurd (true≢false e)
 either false true c t e f = absurd (true≢false f)
 either false false c t e f = t
-
-other : (a b : Bool) → (a || b) ≡ true → a ≡ false → b ≡ true
-other true b t e = absurd (true≢false e)
-other false b t e = t
 
 here : (pair : Pair) (x y : Operand) → pair ≡ pairOf x y → {row : Row} → rowOf pair 1 ≡ row → rowOf (pairOf x y) 1 ≡ row
 here pair x y is e = ap (λ (s : Pair). rowOf s 1) (sym is) ∙ e
@@ -179,14 +161,14 @@ module _ (p : ℕ) (pair : Pair) (u : ℕ) (f : Facing p pair u) where
       where
         all : DifferenceCase pair → All p pair D (2 * (D * 2 ^ 64) + bit (hasMore pair))
         all (read row g) o x y d reg is lead e = rw (g, ← e) (exact-says p P o x y d lead (here pair x y is row))
-        all (short row g a) o x y d reg is lead e = rw (g, ← e) (plus-says p P o x y d lead (rw e (i (other whole inside t (ew ∙ a)))) false false true (here pair x y is row))
-        all (less row a) o x y d reg is lead e = rw (← e) (minus-says p P o x y d lead (rw e (i (other whole inside t (ew ∙ a)))) _ (here pair x y is row))
+        all (short row g a) o x y d reg is lead e = rw (g, ← e) (plus-says p P o x y d lead (rw e (i (second-true whole inside t (ew ∙ a)))) false false true (here pair x y is row))
+        all (less row a) o x y d reg is lead e = rw (← e) (minus-says p P o x y d lead (rw e (i (second-true whole inside t (ew ∙ a)))) _ (here pair x y is row))
 
     pub hole-found : isHole pair ≡ true → (v : ℕ) → v < 2 ^ 64 → (r : Column) → r ≡ record { fixed = true; carry = false; limb = u - 1; guard = 18446744073709551615; more = true } → Found p pair u v r
     hole-found hole v lt r is = record { ahead = λ e. rw none (omega (arith, f .led)); settles = subst (λ (n : ℕ). Settles p pair n r) (sym (read-difference pair u v same ∙ ap (λ (n : ℕ). u - n) none ∙ flat u)) (rw is settles) }
       where
         none : v / 2 ^ pair .gap ≡ 0
-        none = part-none v (pair .gap) lt (leb-true 64 (pair .gap) (and-true (leb (pair .first) 64) (leb 64 (pair .gap)) hole .1))
+        none = part-none v (pair .gap) lt (leb-true 64 (pair .gap) (both-true (leb (pair .first) 64) (leb 64 (pair .gap)) hole .1))
 
         flat : (n : ℕ) → n - 0 ≡ n
         flat n = omega arith

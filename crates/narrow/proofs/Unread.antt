@@ -5,12 +5,13 @@ use mathlib.Core.Bool.{true, false}
 use Prim.Native.Nat.{ℕ, zero, suc, _+_, _-_, _*_, _/_, _%_, _^_, _≤_, _<_, compare, Ordering, Ordering·lt, Ordering·gt}
 use native.Mathlib.Nat.{mod-lt}
 use native.Mathlib.Omega.{arith}
-use borrow.Author.Tests.{lt-ltb, le-leb}
+use borrow.Author.Tests.{lt-ltb}
 use lib.Pow.{pow-pos, pow-add, mod-pow-add}
 use lib.Ieee.{size}
+use Rattle.decide.proofs.Settled.{enough-longer}
 use Rattle.rounding.specs.Mode.{Way, near, under, over}
 use Rattle.rounding.proofs.Order.{compare-at}
-use Rattle.decide.specs.Class.{tie, off, lean, alike, enough, settled}
+use Rattle.decide.specs.Class.{tie, off, lean, alike, settled}
 use Rattle.decide.proofs.Lean.{lean-rest}
 use Rattle.lean.proofs.Plus.{settled-is}
 use Rattle.narrow.specs.Lone.{Beyond}
@@ -40,12 +41,6 @@ module _ (p D : ℕ) (n : Beyond p D) where
       whole : 1 + (size D - p - 1) ≡ size D - p
       whole = omega (arith, n .longer)
 
-  digits-so : (w : Way) → enough w p D ≡ true
-  unfolding enough
-  digits-so near = lt-ltb p (size D) (n .longer)
-  digits-so under = le-leb p (size D) (omega (arith, n .longer))
-  digits-so over = le-leb p (size D) (omega (arith, n .longer))
-
   flat : r + 0 ≡ r
   flat = add-none r
     where
@@ -55,7 +50,7 @@ module _ (p D : ℕ) (n : Beyond p D) where
   pub beyond-settles : (w : Way) → settled w p D false 0 true ≡ true
   unfolding off tie
   beyond-settles w =
-      settled-is w p D false 0 true (digits-so w) (lt-ltb (r + 0) u (rw flat (mod-lt D (pow-pos (size D - p)))))
+      settled-is w p D false 0 true (enough-longer w p D (n .longer)) (lt-ltb (r + 0) u (rw flat (mod-lt D (pow-pos (size D - p)))))
       ∙ ap (λ (m : ℕ). alike (lean w (D / u) u r false) (lean w (D / u) u m true)) flat
       ∙ ap (λ (o : Ordering). alike o (lean w (D / u) u r true)) (lean-rest w (D / u) u r (side .0) false)
       ∙ ap (alike (off w (D / u) u r false)) (lean-rest w (D / u) u r (side .0) true)

@@ -44,3 +44,7 @@ limbs-hold p = omega arith
 pub limbs-fewest : (p : ℕ) → 64 * limbsFor p < p + 64
 unfolding limbsFor
 limbs-fewest p = omega arith
+
+pub limbs-more : (p q : ℕ) → p ≤ q → limbsFor p ≤ limbsFor q
+unfolding limbsFor
+limbs-more p q h = omega arith

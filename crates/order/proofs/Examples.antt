@@ -5,6 +5,7 @@ use mathlib.Core.List.{List, [], _∷_}
 use Prim.Native.Nat.{ℕ, _+_, _-_, _*_, _^_, _<_, compare, Ordering, Ordering·lt, Ordering·eq, Ordering·gt}
 use native.Mathlib.Omega.{arith}
 use lib.IntN.{ℤ, pos, negsuc}
+use Rattle.rounding.proofs.Mirror.{share-turned}
 use Rattle.limb.specs.Value.{valueIn}
 use Rattle.numbers.specs.Limits.{leastPrecision, mostPrecision, bias, counted, leastExponent, mostExponent, limbsFor}
 use Rattle.numbers.specs.Operand.{Operand, spareBits, mantissa, lastWeight, turned}
@@ -17,7 +18,6 @@ use Rattle.checks.specs.declared.Kind.the-variants.{Regular, Zero}
 use Rattle.checks.specs.Number.{isZeroKind, operandOf}
 use Rattle.checks.specs.Check.{accepted, firstRefusal, precisionHolds, lengthHolds, exponentHolds, topBitHolds, spareBitsHold, formHolds, comparedRefusal}
 use Rattle.order.specs.Order.{orderOf, caseOf, numberOf, signOf, comparedOf}
-use Rattle.order.proofs.Laws.{turned-share}
 
 -- ---- the order is the sign of x - y, the sum of x and the turned y
 
@@ -41,9 +41,9 @@ order-is-difference x y = go (compare above below) (cmp above below)
     below = share true s x + share false s y
 
     go : (o : Ordering) → Cmp o above below → Differ o x y
-    go Ordering·lt h = (below - above, omega arith, rw (turned-share true s y, turned-share false s y) (omega arith))
-    go Ordering·eq h = rw (turned-share true s y, turned-share false s y) (omega arith)
-    go Ordering·gt h = (above - below, omega arith, rw (turned-share true s y, turned-share false s y) (omega arith))
+    go Ordering·lt h = (below - above, omega arith, rw (share-turned true s y, share-turned false s y) (omega arith))
+    go Ordering·eq h = rw (share-turned true s y, share-turned false s y) (omega arith)
+    go Ordering·gt h = (above - below, omega arith, rw (share-turned true s y, share-turned false s y) (omega arith))
 
 -- ---- comparisons
 

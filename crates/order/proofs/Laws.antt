@@ -1,19 +1,20 @@
 -- The order of two numbers is an order: equal to itself, reversed with its operands, and so under a turn of both signs. Assumes nothing.
 use mathlib.Core.Path.{_≡_, refl, sym, ap, _∙_}
-use mathlib.Core.Bool.{Bool, true, false, not, cond, Bool·beq, true≢false}
-use Prim.Native.Nat.{ℕ, _+_, min, compare, Ordering, Ordering·lt, Ordering·eq, Ordering·gt}
+use mathlib.Core.Logic.{inl, inr}
+use mathlib.Core.Bool.{Bool, true, false, cond}
+use Prim.Native.Nat.{ℕ, _+_, compare, Ordering, Ordering·lt, Ordering·eq, Ordering·gt}
 use native.Mathlib.Nat.{add-comm}
-use native.Mathlib.Omega.{arith}
 use mathlib.Core.List.{List}
 use lib.Dec.{eqb}
 use lib.IntN.{pos, negℤ}
-use Rattle.numbers.specs.Operand.{Operand, mantissa, lastWeight, turned}
+use Rattle.numbers.specs.Operand.{Operand, turned}
 use Rattle.checks.specs.declared.Number.{Number}
 use Rattle.checks.specs.Number.{operandOf}
 use Rattle.checks.specs.Check.{comparedRefusal}
-use Rattle.rounding.specs.Sum.{scale, amount, share}
+use Rattle.rounding.specs.Sum.{scale, share}
 use Rattle.rounding.proofs.Order.{Cmp, cmp, compare-at}
-use Rattle.rounding.proofs.Zeros.{share-zero}
+use Rattle.rounding.proofs.Zeros.{share-zero, scale-commutes}
+use Rattle.rounding.proofs.Mirror.{share-turned, scale-turned}
 use Rattle.order.specs.Order.{orderOf, caseOf, numberOf, signOf, comparedOf}
 use Rattle.order.specs.declared.Order.the-variants.{Equal}
 use Rattle.order.specs.Steps.{reversed}
@@ -53,17 +54,6 @@ zeros-equal x y z w =
     let s = scale x y in
     compare-at Ordering·eq _ _ (simp (share-zero false s x z, share-zero true s x z, share-zero false s y w, share-zero true s y w))
 
--- the unit of two numbers that are not both zero
-scale-swapped : (x y : Operand) → (x .isZero ≡ true → y .isZero ≡ true → ⊥) → scale y x ≡ scale x y
-unfolding scale
-scale-swapped x y n = go (x .isZero) (y .isZero) (lastWeight x) (lastWeight y) n
-  where
-    go : (a b : Bool) (m n : ℕ) → (a ≡ true → b ≡ true → ⊥) → cond b m (cond a n (min n m)) ≡ cond a n (cond b m (min m n))
-    go true true m n h = absurd (h refl refl)
-    go true false m n h = refl
-    go false true m n h = refl
-    go false false m n h = omega arith
-
 same-unit : (x y : Operand) → scale y x ≡ scale x y → orderOf y x ≡ reversed (orderOf x y)
 unfolding orderOf
 same-unit x y e =
@@ -78,28 +68,14 @@ order-reversed x y = go (x .isZero) (y .isZero) refl refl
   where
     go : (a b : Bool) → x .isZero ≡ a → y .isZero ≡ b → orderOf y x ≡ reversed (orderOf x y)
     go true true z w = zeros-equal y x w z ∙ sym (ap reversed (zeros-equal x y z w))
-    go true false z w = same-unit x y (scale-swapped x y (λ e f. true≢false (sym f ∙ w)))
-    go false b z w = same-unit x y (scale-swapped x y (λ e f. true≢false (sym e ∙ z)))
-
-pub turned-share : (b : Bool) (s : ℕ) (x : Operand) → share b s (turned x) ≡ share (not b) s x
-unfolding share amount turned mantissa lastWeight
-turned-share b s x = ap (λ (t : Bool). cond t (amount s x) 0) (other (x .negative) b)
-  where
-    other : (a b : Bool) → Bool·beq (not a) b ≡ Bool·beq a (not b)
-    other true true = refl
-    other true false = refl
-    other false true = refl
-    other false false = refl
-
-turned-scale : (x y : Operand) → scale (turned x) (turned y) ≡ scale x y
-unfolding scale turned lastWeight
-turned-scale x y = refl
+    go true false z w = same-unit x y (scale-commutes y x (inl w))
+    go false b z w = same-unit x y (scale-commutes y x (inr z))
 
 turned-reversed : (x y : Operand) → orderOf (turned x) (turned y) ≡ reversed (orderOf x y)
 unfolding orderOf
 turned-reversed x y =
     let s = scale x y in
-    simp (turned-scale, turned-share) (compare-reversed (share false s x + share true s y) (share true s x + share false s y))
+    simp (scale-turned, share-turned) (compare-reversed (share false s x + share true s y) (share true s x + share false s y))
 
 -- turning both signs reverses the order
 pub order-turned : (x y : Operand) → orderOf (turned x) (turned y) ≡ orderOf y x

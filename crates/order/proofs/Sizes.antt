@@ -2,11 +2,13 @@
 use mathlib.Core.Path.{_≡_, refl, sym, ap, _∙_, subst}
 use mathlib.Core.Logic.{inl, inr}
 use mathlib.Core.Bool.{Bool, true, false, cond, _&&_, Bool·beq, true≢false}
-use Prim.Native.Nat.{ℕ, _+_, _-_, _*_, _/_, _^_, _≤_, _<_, min, compare, Ordering, Ordering·lt, Ordering·eq, Ordering·gt}
-use native.Mathlib.Nat.{le-trans, le-of-eq, le-refl, lt-of-lt-of-le, mul-assoc, mul-le-mul-right, mul-lt-mul-of-pos-right, div-add-mod', add-zero, zero-add}
+use Prim.Native.Nat.{ℕ, _+_, _-_, _*_, _/_, _^_, _≤_, _<_, compare, Ordering, Ordering·lt, Ordering·eq, Ordering·gt}
+use native.Mathlib.Nat.{le-trans, le-of-eq, lt-of-lt-of-le, mul-assoc, mul-le-mul-right, mul-lt-mul-of-pos-right, div-add-mod', add-zero, zero-add}
 use native.Mathlib.Omega.{arith}
 use lib.ListN.{length}
 use lib.Pow.{pow-pos, pow-add, pow-mono}
+use Rattle.rounding.proofs.Units.{scale-first, scale-second}
+use Rattle.rounding.proofs.Zeros.{amount-zero, amount-is}
 use Rattle.limb.specs.Value.{valueOf}
 use Rattle.limb.proofs.Value.{base-pow}
 use Rattle.numbers.specs.Operand.{Operand, spareBits, mantissa, lastWeight, WellFormed}
@@ -66,22 +68,18 @@ module _ (x : Operand) (g : WellFormed x) (r : x .isZero ≡ false) where
       ∙ ap (λ (m : ℕ). mantissa x * (2 ^ spareBits (x .precision) * m)) (base-pow n) ∙ ap (λ (m : ℕ). mantissa x * m) (sym (pow-add 2 (spareBits (x .precision)) (64 * n)))
 
   module _ (s : ℕ) (h : s ≤ lastWeight x) where
-    pub amount-is : amount s x ≡ mantissa x * 2 ^ (lastWeight x - s)
-    unfolding amount
-    amount-is = rw r
-
     -- it lies between two powers of two that the exponent gives
     pub amount-lt : amount s x < 2 ^ (x .exponent - s)
     amount-lt =
         let e : x .precision + (lastWeight x - s) ≡ x .exponent - s = omega (arith, weight-is) in
-        subst (λ (n : ℕ). n < 2 ^ (x .exponent - s)) (sym amount-is)
+        subst (λ (n : ℕ). n < 2 ^ (x .exponent - s)) (sym (amount-is s x r))
         (lt-of-lt-of-le (mul-lt-mul-of-pos-right (mantissa-lt x g) (pow-pos (lastWeight x - s))) (le-of-eq (sym (pow-add 2 (x .precision) (lastWeight x - s)) ∙ ap (λ (n : ℕ). 2 ^ n) e)))
 
     pub amount-ge : 2 ^ (x .exponent - 1 - s) ≤ amount s x
     amount-ge =
         let e : x .exponent - 1 - s ≡ x .precision - 1 + (lastWeight x - s) = omega (arith, weight-is, precision-two x g) in
         le-trans (le-of-eq (ap (λ (n : ℕ). 2 ^ n) e ∙ pow-add 2 (x .precision - 1) (lastWeight x - s)))
-        (le-trans (mul-le-mul-right (2 ^ (lastWeight x - s)) (mantissa-ge x g r)) (le-of-eq (sym amount-is)))
+        (le-trans (mul-le-mul-right (2 ^ (lastWeight x - s)) (mantissa-ge x g r)) (le-of-eq (sym (amount-is s x r))))
 
     pub amount-pos : 0 < amount s x
     amount-pos = lt-of-lt-of-le (pow-pos (x .exponent - 1 - s)) amount-ge
@@ -101,7 +99,7 @@ module _ (x y : Operand) (g : WellFormed x) (k : WellFormed y) (r : x .isZero �
   same-exponent s hx hy e =
       let m = length (x .limbs) in
       let n = length (y .limbs) in
-      ap (λ (a : ℕ). compare a (amount s y)) (amount-is x g r s hx) ∙ ap (compare (mantissa x * 2 ^ (lastWeight x - s))) (amount-is y k q s hy)
+      ap (λ (a : ℕ). compare a (amount s y)) (amount-is s x r) ∙ ap (compare (mantissa x * 2 ^ (lastWeight x - s))) (amount-is s y q)
       ∙ top-aligned (mantissa x) (mantissa y) (x .precision) (y .precision) (lastWeight x - s) (lastWeight y - s) (x .exponent - s) (spareBits (x .precision) + 64 * n) (spareBits (y .precision) + 64 * m) (64 * m + 64 * n)
       (omega (arith, weight-is x g r)) (omega (arith, weight-is y k q)) (omega (arith, digits-and-spare (x .precision), g .count)) (omega (arith, digits-and-spare (y .precision), k .count))
       ∙ sym (ap (λ (a : ℕ). compare a (valueOf (y .limbs) * (2 ^ 64) ^ m)) (padded-is x g r n) ∙ ap (compare (mantissa x * 2 ^ (spareBits (x .precision) + 64 * n))) (padded-is y k q m))
@@ -121,10 +119,6 @@ module _ (x y : Operand) (g : WellFormed x) (k : WellFormed y) (r : x .isZero �
 abbrev pub Under : ℕ → Operand → Type 0
 Under s x = x .isZero ≡ false → s ≤ lastWeight x
 
-pub zero-amount : (s : ℕ) (x : Operand) → x .isZero ≡ true → amount s x ≡ 0
-unfolding amount
-zero-amount s x z = rw z
-
 pub some-amount : (s : ℕ) (x : Operand) → WellFormed x → Under s x → x .isZero ≡ false → 0 < amount s x
 some-amount s x g u r = amount-pos x g r s (u r)
 
@@ -134,16 +128,16 @@ module _ (s : ℕ) (x y : Operand) (g : WellFormed x) (k : WellFormed y) (ux : U
   size-order = go (x .isZero) (y .isZero) refl refl
     where
       go : (a b : Bool) → x .isZero ≡ a → y .isZero ≡ b → compare (amount s x) (amount s y) ≡ cond a (cond b Ordering·eq Ordering·lt) (cond b Ordering·gt (regularOrder x y))
-      go true true z w = compare-at Ordering·eq _ _ (zero-amount s x z ∙ sym (zero-amount s y w))
-      go true false z w = compare-at Ordering·lt _ _ (subst (λ (n : ℕ). n < amount s y) (sym (zero-amount s x z)) (some-amount s y k uy w))
-      go false true z w = compare-at Ordering·gt _ _ (subst (λ (n : ℕ). n < amount s x) (sym (zero-amount s y w)) (some-amount s x g ux z))
+      go true true z w = compare-at Ordering·eq _ _ (amount-zero s x z ∙ sym (amount-zero s y w))
+      go true false z w = compare-at Ordering·lt _ _ (subst (λ (n : ℕ). n < amount s y) (sym (amount-zero s x z)) (some-amount s y k uy w))
+      go false true z w = compare-at Ordering·gt _ _ (subst (λ (n : ℕ). n < amount s x) (sym (amount-zero s y w)) (some-amount s x g ux z))
       go false false z w = regular-order x y g k z w s (ux z) (uy w)
 
   both-none : x .isZero && y .isZero ≡ true → amount s x + amount s y ≡ 0
   both-none h = go (x .isZero) (y .isZero) refl refl h
     where
       go : (a b : Bool) → x .isZero ≡ a → y .isZero ≡ b → a && b ≡ true → amount s x + amount s y ≡ 0
-      go true true z w h = ap (λ (n : ℕ). n + amount s y) (zero-amount s x z) ∙ ap (λ (n : ℕ). 0 + n) (zero-amount s y w)
+      go true true z w h = ap (λ (n : ℕ). n + amount s y) (amount-zero s x z) ∙ ap (λ (n : ℕ). 0 + n) (amount-zero s y w)
       go true false z w h = absurd (true≢false (sym h))
       go false b z w h = absurd (true≢false (sym h))
 
@@ -156,24 +150,6 @@ module _ (s : ℕ) (x y : Operand) (g : WellFormed x) (k : WellFormed y) (ux : U
       go false b z w h = omega (arith, some-amount s x g ux z)
 
 -- ---- with their signs
-
-pub scale-first : (x y : Operand) → Under (scale x y) x
-unfolding scale
-scale-first x y r = go (x .isZero) (y .isZero) (lastWeight x) (lastWeight y) r
-  where
-    go : (a b : Bool) (m n : ℕ) → a ≡ false → cond a n (cond b m (min m n)) ≤ m
-    go true b m n r = absurd (true≢false r)
-    go false true m n r = le-refl m
-    go false false m n r = omega arith
-
-pub scale-second : (x y : Operand) → Under (scale x y) y
-unfolding scale
-scale-second x y r = go (x .isZero) (y .isZero) (lastWeight x) (lastWeight y) r
-  where
-    go : (a b : Bool) (m n : ℕ) → b ≡ false → cond a n (cond b m (min m n)) ≤ n
-    go true b m n r = le-refl n
-    go false true m n r = absurd (true≢false r)
-    go false false m n r = omega arith
 
 pub compare-reversed : (a b : ℕ) → compare b a ≡ reversed (compare a b)
 unfolding reversed

@@ -15,7 +15,7 @@ part-is s a = take-all (length s - a) (drop a s) (simp length-drop (omega arith)
 
 module _ (s part : List ℕ) (a : ℕ) (h : a ≤ length s) where
   -- the slice whose part from limb a on has become `part`
-  put-is : putMid a (length s - a) s part ≡ take a s ++ part
+  pub put-is : putMid a (length s - a) s part ≡ take a s ++ part
   put-is = rw (post-is a (length s) s h, drop-length s, append-nil part)
 
   pub drop-put : drop a (putMid a (length s - a) s part) ≡ part

@@ -1,6 +1,6 @@
 -- A run of one limb with its first digit brought to the top of the limb: what the moves leave, and that its answer is the same. Assumes nothing.
 use mathlib.Core.Path.{_≡_, refl, sym, ap, _∙_, subst}
-use mathlib.Core.Bool.{Bool, true, false, not, _&&_, _||_}
+use mathlib.Core.Bool.{Bool, true, false, not, _||_}
 use mathlib.Core.List.{List, [], _∷_}
 use Prim.Native.Nat.{ℕ, _+_, _-_, _*_, _/_, _%_, _^_, _≤_, _<_}
 use native.Mathlib.Nat.{le-trans, le-of-eq, div-eq-of-lt, le-of-mul-le-mul-right, lt-of-mul-lt-mul-right}
@@ -10,6 +10,7 @@ use lib.Count.{leadingZeros}
 use lib.Dec.{eqb}
 use lib.Pow.{pow-pos, pow-add}
 use borrow.Author.Tests.{lt-ltb, le-leb, eq-eqb}
+use Rattle.limb.proofs.Tests.{and-both}
 use Rattle.limb.specs.Carry.{bit}
 use Rattle.numbers.specs.Limits.{leastPrecision, mostPrecision, mostExponent, limbsFor}
 use Rattle.rounding.specs.Mode.{Way, modeOf, way}
@@ -238,11 +239,8 @@ module _ (mode p : ℕ) (negative : Bool) (u : ℕ) (b : Bool) (x g : ℕ) (more
   pub normal-passes : runRule p false (r .limb ∷ []) (r .unit) ≡ 0
   unfolding leastPrecision mostPrecision
   normal-passes =
-      sym (rule-none p false (r .limb ∷ []) (r .unit) (both (le-leb 2 p (ok .least)) (le-leb p 4096 (ok .most))) (eq-eqb 1 (limbsFor p) (ok .count))
-      (both (lt-ltb 0 (r .unit) (unit-fits .0)) (le-leb (r .unit) (2 * mostExponent) (unit-fits .1))) (lt-ltb 0 (r .limb) (omega (arith, n .first))))
-    where
-      both : {a c : Bool} → a ≡ true → c ≡ true → (a && c) ≡ true
-      both e f = rw (e, f) refl
+      sym (rule-none p false (r .limb ∷ []) (r .unit) (and-both (le-leb 2 p (ok .least)) (le-leb p 4096 (ok .most))) (eq-eqb 1 (limbsFor p) (ok .count))
+      (and-both (lt-ltb 0 (r .unit) (unit-fits .0)) (le-leb (r .unit) (2 * mostExponent) (unit-fits .1))) (lt-ltb 0 (r .limb) (omega (arith, n .first))))
 
   -- what the normal run is rounded to, the run is rounded to
   pub normal-rounds : (q : Placed) (l : List ℕ) → q ≡ roundedPlaced mode p negative (r .unit) false (r .limb ∷ []) (r .guard) (r .more) → l ≡ roundedLimbs mode p negative (r .unit) false (r .limb ∷ []) (r .guard) (r .more)

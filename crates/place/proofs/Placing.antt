@@ -21,7 +21,8 @@ use Rattle.rounding.specs.Select.{unit, chosen, onGrid}
 use Rattle.rounding.specs.Answer.{Answer, number, ranged, digits, signed, rounded}
 use Rattle.rounding.proofs.Order.{le-or-lt}
 use Rattle.rounding.proofs.Between.{is-large, is-small, is-in}
-use Rattle.rounding.proofs.Even.{size-is, digits-of}
+use Rattle.limb.proofs.Sizes.{size-is}
+use Rattle.rounding.proofs.Even.{digits-of}
 use Rattle.location.specs.declared.Location.{Location}
 use Rattle.place.specs.declared.Placed.{Placed}
 use Rattle.location.specs.Location.{locationOf, goesUp, side}

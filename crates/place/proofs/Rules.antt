@@ -7,21 +7,14 @@ use native.Mathlib.Omega.{arith}
 use lib.Dec.{ltb, leb, eqb}
 use lib.ListN.{length, getD}
 use borrow.Author.Tests.{ltb-true, leb-true, eqb-true, ne-eqb, eq-eqb}
+use Rattle.limb.proofs.Tests.{both-true, second-true}
 use Rattle.numbers.specs.Limits.{leastPrecision, mostPrecision, mostExponent, bias, limbsFor}
 use Rattle.numbers.specs.Operand.{spareBits}
 use Rattle.place.specs.Placed.{runRule}
 
-and-left : (a b : Bool) → (a && b) ≡ true → a ≡ true
-and-left true b e = refl
-and-left false b e = e
-
-and-right : (a b : Bool) → (a && b) ≡ true → b ≡ true
-and-right true b e = e
-and-right false b e = absurd (let z : _≡_ {A = ℕ} 0 1 = cc in omega arith)
-
 pub precision-most : (p : ℕ) → (leb leastPrecision p && leb p mostPrecision) ≡ true → p ≤ 4096
 unfolding mostPrecision
-precision-most p e = leb-true p 4096 (and-right (leb leastPrecision p) (leb p 4096) e)
+precision-most p e = leb-true p 4096 (both-true (leb leastPrecision p) (leb p 4096) e .1)
 
 -- a run that the rules let pass, whose limbs hold the digits and fewer than 64 spare bits
 pub record Passed (p : ℕ) (carry : Bool) (target : List ℕ) (unit : ℕ) : Type 0 where
@@ -42,10 +35,6 @@ four true true true false e = absurd (omega arith)
 four true true false d e = absurd (omega arith)
 four true false c d e = absurd (omega arith)
 four false b c d e = absurd (omega arith)
-
-or-first : (a b : Bool) → (a || b) ≡ true → a ≡ false → b ≡ true
-or-first true b e f = absurd (let z : _≡_ {A = ℕ} 0 1 = cc in omega arith)
-or-first false b e f = e
 
 -- the limbs of p digits
 module _ (p n : ℕ) (e : n ≡ limbsFor p) where
@@ -69,16 +58,16 @@ pub passed : (p : ℕ) (carry : Bool) (t : List ℕ) (unit : ℕ) → runRule p 
 unfolding runRule leastPrecision mostExponent bias
 passed p carry t unit e =
     let f = four (leb leastPrecision p && leb p mostPrecision) (eqb (length t) (limbsFor p)) (ltb 0 unit && leb unit (2 * mostExponent)) (carry || ltb 0 (getD t (length t - 1) 0)) e in
-    let least : 2 ≤ p = leb-true 2 p (and-left _ _ (f .0)) in
+    let least : 2 ≤ p = leb-true 2 p (both-true _ _ (f .0) .0) in
     let most = precision-most p (f .0) in
     let count = eqb-true (length t) (limbsFor p) (f .1) in
     record {
       least = least;
       most = most;
       count = count;
-      some = ltb-true 0 unit (and-left _ _ (f .2));
-      small = leb-true unit (2 * mostExponent) (and-right (ltb 0 unit) _ (f .2));
-      first = λ n. ltb-true 0 _ (or-first carry _ (f .3) n);
+      some = ltb-true 0 unit (both-true _ _ (f .2) .0);
+      small = leb-true unit (2 * mostExponent) (both-true (ltb 0 unit) _ (f .2) .1);
+      first = λ n. ltb-true 0 _ (second-true carry _ (f .3) n);
       some-limbs = limbs-some p (length t) count least;
       few-limbs = limbs-few p (length t) count most;
       digits-fit = limbs-fit p (length t) count;

@@ -14,6 +14,7 @@ use lib.ListN.{length, drop, getD, drop-of-length-le}
 use lib.Pow.{pow-add, pow-pos, pow-mono, shr-shr, shr-lt}
 use lib.Seq.{drop-drop, getD-drop}
 use borrow.Author.Tests.{eq-eqb, ne-eqb}
+use Rattle.limb.proofs.Powers.{one-moved}
 use Rattle.limb.specs.Value.{valueOf, Below}
 use Rattle.limb.specs.Carry.{bit}
 use Rattle.limb.proofs.Carry.{bit-le}
@@ -24,7 +25,7 @@ use Rattle.remnant.specs.Digits.{ShowsDigits}
 use Rattle.remnant.specs.Ones.{OnesFirst}
 use Rattle.walk.proofs.Showing.{shown-open, shown-guarded}
 use Rattle.walk.proofs.Walking.{tail-lt}
-use Rattle.remnant.proofs.Resting.{eqb-same, both-same, next-is, word-high, kept-longer, one-moved}
+use Rattle.remnant.proofs.Resting.{eqb-same, both-same, next-is, word-high, kept-longer}
 
 -- ones above and ones below are ones in all
 ones-joined : (a g M s : ℕ) → s < M → eqb (suc a) g && eqb (suc s) M ≡ eqb (suc (a * M + s)) (g * M)

@@ -3,11 +3,12 @@ use mathlib.Core.Path.{_≡_, refl, sym, ap, _∙_, subst}
 use mathlib.Core.Bool.{Bool, true, false, not, _&&_, _||_}
 use Prim.Native.Nat.{ℕ, zero, suc, _+_, _-_, _*_, _/_, _%_, _^_, _≤_, _<_}
 use native.Mathlib.Decide.{decLe}
-use native.Mathlib.Nat.{mul-le-mul-right, one-mul, add-mul-mod-self-left, add-mul-div-left, pos-of-ne-zero}
+use native.Mathlib.Nat.{mul-le-mul-right, add-mul-mod-self-left, add-mul-div-left, pos-of-ne-zero}
 use native.Mathlib.Omega.{arith}
-use lib.Dec.{ltb, eqb, lit<}
-use lib.Pow.{pow-add, pow-pos, pow-mono, shl-exact, shr-shr, mod-pow-add, high, low}
+use lib.Dec.{ltb, eqb}
+use lib.Pow.{pow-add, pow-pos, pow-mono, shr-shr, mod-pow-add, high, low}
 use borrow.Author.Tests.{eqb-true, eqb-false, ltb-true, ltb-false, eq-eqb, ne-eqb, lt-ltb, le-ltb}
+use Rattle.limb.proofs.Powers.{pow-split}
 use Rattle.walk.specs.declared.state.Tail.the-variants.{Empty, Zeros, Ones, Mixed}
 use Rattle.remnant.specs.declared.rest.Rest.{Rest}
 use Rattle.remnant.specs.Rest.{Marks, RestAt, LongerRest, TailedRest}
@@ -145,21 +146,15 @@ longer-is x z o n d e s some r l ez eo =
 -- ---- one word
 
 module _ (h word bits : ℕ) (few : bits ≤ 64) where
-  base-split : 2 ^ 64 ≡ 2 ^ bits * 2 ^ (64 - bits)
-  base-split = ap (λ (x : ℕ). 2 ^ x) (sym (full bits few)) ∙ pow-add 2 bits (64 - bits)
-    where
-      full : (x : ℕ) → x ≤ 64 → x + (64 - x) ≡ 64
-      full x l = omega arith
-
   word-split : (Q P : ℕ) → 2 ^ 64 ≡ Q * P → h * 2 ^ 64 + word ≡ word + Q * (P * h)
   word-split Q P e = omega (arith, ap (λ (x : ℕ). h * x) e)
 
   pub word-low : (h * 2 ^ 64 + word) % 2 ^ bits ≡ word % 2 ^ bits
-  word-low = ap (λ (x : ℕ). x % 2 ^ bits) (word-split (2 ^ bits) (2 ^ (64 - bits)) base-split) ∙ add-mul-mod-self-left word (2 ^ bits) (2 ^ (64 - bits) * h)
+  word-low = ap (λ (x : ℕ). x % 2 ^ bits) (word-split (2 ^ bits) (2 ^ (64 - bits)) (pow-split 2 bits 64 few)) ∙ add-mul-mod-self-left word (2 ^ bits) (2 ^ (64 - bits) * h)
 
   -- the bits above them
   pub word-high : (h * 2 ^ 64 + word) / 2 ^ bits ≡ word / 2 ^ bits + 2 ^ (64 - bits) * h
-  word-high = ap (λ (x : ℕ). x / 2 ^ bits) (word-split (2 ^ bits) (2 ^ (64 - bits)) base-split) ∙ add-mul-div-left word (2 ^ (64 - bits) * h) (pow-pos bits)
+  word-high = ap (λ (x : ℕ). x / 2 ^ bits) (word-split (2 ^ bits) (2 ^ (64 - bits)) (pow-split 2 bits 64 few)) ∙ add-mul-div-left word (2 ^ (64 - bits) * h) (pow-pos bits)
 
   -- the bit above the low bits stands in the word
   pub word-above : (bits ≡ 64 → ⊥) → (h * 2 ^ 64 + word) / 2 ^ bits % 2 ≡ word / 2 ^ bits % 2
@@ -169,10 +164,6 @@ module _ (h word bits : ℕ) (few : bits ≤ 64) where
     where
       even-part : (a b P Q : ℕ) → P ≡ 2 * Q → b ≡ a + P * h → b % 2 ≡ a % 2
       even-part a b P Q e f = let g : b ≡ a + 2 * (Q * h) = f ∙ ap (λ (x : ℕ). a + x) (omega (arith, ap (λ (x : ℕ). x * h) e)) in omega arith
-
--- 1 moved up by less than 64 loses no bit
-pub one-moved : (k : ℕ) → k < 64 → 1 * 2 ^ k % 2 ^ 64 ≡ 2 ^ k
-one-moved k h = shl-exact 1 k 64 (lit< tt) (omega arith) ∙ one-mul _
 
 -- twice half a weight, less one, fits a word
 pub half-fits : (bits : ℕ) → 0 < bits → bits ≤ 64 → 2 ^ (bits - 1) - 1 + 2 ^ (bits - 1) < 2 ^ 64

@@ -1,60 +1,26 @@
 -- Laws of how many digits a number has that a window shows: the first limb filled tells it. Assumes nothing.
-use mathlib.Core.Path.{_≡_, refl, sym, ap, _∙_, subst}
+use mathlib.Core.Path.{_≡_, refl, sym, ap, _∙_}
 use mathlib.Core.Bool.{Bool, true, false}
 use mathlib.Core.List.{List}
-use Prim.Native.Nat.{ℕ, zero, suc, _+_, _-_, _*_, _^_, _≤_, _<_}
-use native.Mathlib.Nat.{mul-le-mul-right, lt-of-not-le, pos-of-ne-zero}
+use Prim.Native.Nat.{ℕ, suc, _+_, _-_, _*_, _^_, _≤_, _<_}
+use native.Mathlib.Nat.{pos-of-ne-zero}
 use native.Mathlib.Omega.{arith}
 use lib.Count.{leadingZeros, leading-top}
 use lib.Ieee.{size}
-use lib.Ieee.Digits.{size-lt, size-le, size-reaches}
 use lib.ListN.{length, take, drop, getD, length-drop}
-use lib.Pow.{pow-add, pow-pos, pow-mono}
-use lib.Seq.{drop-drop, drop-length, getD-drop}
+use lib.Pow.{pow-add, pow-pos}
+use lib.Seq.{drop-drop, drop-length}
 use Rattle.limb.specs.Value.{valueOf, Below}
 use Rattle.limb.specs.Carry.{bit}
-use Rattle.limb.proofs.Value.{value-nil, value-split, value-drop, value-lt, value-take-lt, base-pow}
+use Rattle.limb.proofs.Tests.{true-false}
+use Rattle.limb.proofs.Sizes.{size-is, size-zero, part-least, part-most, size-part}
+use Rattle.limb.proofs.Value.{value-nil, value-split, value-drop, value-lt, below-part, value-take-lt, base-pow}
 use Rattle.walk.specs.declared.state.Window.{Window}
 use Rattle.walk.specs.Window.{headOf, shownColumns, Fits, Shows}
 use Rattle.remnant.specs.Digits.{ShowsDigits}
 use Rattle.walk.proofs.Tails.{column-weight}
 use Rattle.walk.proofs.Showing.{whole-shows, tailed-shows, unfilled-shows}
 use Rattle.walk.proofs.Walking.{tail-lt}
-
--- ---- a number's digits
-
-pub size-is : (n z : ℕ) → 2 ^ z ≤ n → n < 2 ^ suc z → size n ≡ suc z
-size-is n z l h =
-    let most : size n ≤ suc z = size-le n (suc z) h in
-    let least : z < size n = lt-of-not-le (λ (g : size n ≤ z). omega (arith, size-lt n, pow-mono {i = size n} {j = z} g)) in
-    omega arith
-
-pub size-zero : size 0 ≡ 0
-size-zero = let z : size 0 ≤ 0 = size-le 0 0 (omega arith) in omega arith
-
--- the place of the first digit
-pub top-digit : (n : ℕ) → 0 < n → (z : ℕ) × (size n ≡ suc z) × (2 ^ z ≤ n) × (n < 2 ^ suc z)
-top-digit n h = go (size n) refl
-  where
-    go : (s : ℕ) → size n ≡ s → (z : ℕ) × (size n ≡ suc z) × (2 ^ z ≤ n) × (n < 2 ^ suc z)
-    go zero e = absurd (omega (arith, subst (λ (x : ℕ). n < 2 ^ x) e (size-lt n)))
-    go (suc z) e = (z, e, size-reaches n z (omega arith), subst (λ (x : ℕ). n < 2 ^ x) e (size-lt n))
-
--- x with e digits more below it
-part-least : (x y P : ℕ) → y ≤ x → y * P ≤ x * P
-part-least x y P h = mul-le-mul-right P h
-
-part-most : (x y P q : ℕ) → x < y → q < P → x * P + q < y * P
-part-most x y P q h l = omega (arith, mul-le-mul-right P h)
-
-pub size-part : (x e q : ℕ) → 0 < x → q < 2 ^ e → size (x * 2 ^ e + q) ≡ size x + e
-size-part x e q h l =
-    let t = top-digit x h in
-    let z : ℕ = t .0 in
-    let low : 2 ^ (z + e) ≤ x * 2 ^ e + q = rw (pow-add 2 z e) (omega (arith, part-least x (2 ^ z) (2 ^ e) (t .2))) in
-    let high : x * 2 ^ e + q < 2 ^ suc (z + e) =
-    (let n : suc (z + e) ≡ suc z + e = omega arith in rw (n, pow-add 2 (suc z) e) (part-most x (2 ^ suc z) (2 ^ e) q (t .3) l)) in
-    size-is (x * 2 ^ e + q) (z + e) low high ∙ omega (arith, t .1)
 
 -- ---- what stands below the limbs filled
 
@@ -93,9 +59,6 @@ below-head w target k D s = go (w .guarded) refl
 -- ---- the limbs filled
 
 module _ (w : Window) (target : List ℕ) (b : Below (2 ^ 64) target) where
-  below-part : (n : ℕ) → Below (2 ^ 64) (drop n target)
-  below-part n i = rw (getD-drop n target i 0) (b (n + i))
-
   -- the top limb x, and f limbs below it
   head-top : (f : ℕ) → w .filled ≡ suc f → w .filled ≤ length target → w .carry ≡ false
       → (q : ℕ) × (headOf w target ≡ getD target (length target - 1) 0 * 2 ^ (64 * f) + q) × (q < 2 ^ (64 * f))
@@ -110,14 +73,14 @@ module _ (w : Window) (target : List ℕ) (b : Below (2 ^ 64) target) where
       ap (λ (m : List ℕ). valueOf m) (drop-drop f at target) ∙ ap (λ (n : ℕ). valueOf (drop n target)) place ∙ value-drop (2 ^ 64) (length target - 1) target
       ∙ ap (λ (n : ℕ). x + 2 ^ 64 * valueOf (drop n target)) next ∙ ap (λ (m : List ℕ). x + 2 ^ 64 * valueOf m) (drop-length target) ∙ ap (λ (n : ℕ). x + 2 ^ 64 * n) (value-nil (2 ^ 64)) ∙ omega arith in
       let split : valueOf l ≡ valueOf (take f l) + 2 ^ (64 * f) * x = value-split (2 ^ 64) f l ∙ ap (λ (n : ℕ). valueOf (take f l) + n * valueOf (drop f l)) (base-pow f) ∙ ap (λ (n : ℕ). valueOf (take f l) + 2 ^ (64 * f) * n) top in
-      (valueOf (take f l), rw c (omega (arith, split)), rw (base-pow f) at (value-take-lt (2 ^ 64) f l (below-part at)))
+      (valueOf (take f l), rw c (omega (arith, split)), rw (base-pow f) at (value-take-lt (2 ^ 64) f l (below-part (2 ^ 64) at target b)))
 
   head-carry : w .filled ≤ length target → w .carry ≡ true → (q : ℕ) × (headOf w target ≡ 1 * 2 ^ (64 * w .filled) + q) × (q < 2 ^ (64 * w .filled))
   unfolding headOf bit
   head-carry h c =
       let at : ℕ = length target - w .filled in
       let n : length (drop at target) ≡ w .filled = length-drop at target ∙ omega arith in
-      (valueOf (drop at target), rw c refl, rw (n, base-pow (w .filled)) at (value-lt (2 ^ 64) (drop at target) (below-part at)))
+      (valueOf (drop at target), rw c refl, rw (n, base-pow (w .filled)) at (value-lt (2 ^ 64) (drop at target) (below-part (2 ^ 64) at target b)))
 
   module _ (k D : ℕ) (s : Shows w target k D) where
     -- a carry is the first digit
@@ -174,9 +137,6 @@ module _ (w : Window) (target : List ℕ) (b : Below (2 ^ 64) target) where
 
 -- ---- how many digits there are at least and at most, whatever is shown
 
-never-both : (p : Bool) → p ≡ false → p ≡ true → ⊥
-never-both p e f = let z : _≡_ {A = ℕ} 0 1 = cc in omega arith
-
 module _ (w : Window) (target : List ℕ) (r : ℕ) where
   pub with-carry : w .carry ≡ true → r ≡ 64 * w .filled + 64 * bit (w .guarded) + 1 → ((k D : ℕ) (s : Shows w target k D) → r + 64 * s .below ≡ size D) → ShowsDigits w target r
   unfolding bit
@@ -185,7 +145,7 @@ module _ (w : Window) (target : List ℕ) (r : ℕ) where
   pub without-carry : w .carry ≡ false → r ≤ 64 * w .filled + 64 * bit (w .guarded) → 64 * bit (w .guarded) ≤ r → ((k D : ℕ) (s : Shows w target k D) → r + 64 * s .below ≡ size D)
       → ShowsDigits w target r
   unfolding bit
-  without-carry c m l x = record { most = rw c (omega arith); least = rw c (omega arith); carried = λ y. absurd (never-both (w .carry) c y); exact = x }
+  without-carry c m l x = record { most = rw c (omega arith); least = rw c (omega arith); carried = λ y. absurd (true-false y c); exact = x }
 
   -- a guard stands below a full target
   pub unfilled-unguarded : Fits w target → w .filled ≡ 0 → bit (w .guarded) ≡ 0

@@ -1,36 +1,24 @@
 -- Two zeros: a zero of the sign that the rule gives, nothing read, the target all 0. Assumes nothing.
 use mathlib.Core.Path.{_≡_, refl, sym, ap, _∙_}
-use mathlib.Core.Bool.{Bool, true, false, _&&_, true≢false}
+use mathlib.Core.Bool.{true, false, _&&_, true≢false}
 use mathlib.Core.List.{List}
 use Prim.Native.Nat.{ℕ, zero-le}
 use lib.ListN.{replicate}
+use Rattle.rounding.proofs.Zeros.{share-zero}
 use Rattle.numbers.specs.Limits.{limbsFor}
 use Rattle.numbers.specs.Operand.{Operand}
 use Rattle.rounding.specs.Mode.{Mode}
 use Rattle.rounding.specs.Answer.{Answer, zeroOf, answer}
-use Rattle.rounding.specs.Sum.{amount, share, zeroSign, sumAt, add}
+use Rattle.rounding.specs.Sum.{zeroSign, sumAt, add}
 use Rattle.depth.specs.Columns.{topExponent, limbsUsed}
 use Rattle.depth.specs.Depth.{plus, result}
 use Rattle.place.specs.Placed.{limbsAfter}
 use Rattle.reports.specs.Summed.{sumOf, Reported}
 
 module _ (o : Mode) (p : ℕ) (x y : Operand) (a : x .isZero ≡ true) (b : y .isZero ≡ true) where
-  zero-share : (c : Bool) (s : ℕ) (z : Operand) → z .isZero ≡ true → share c s z ≡ 0
-  unfolding share amount
-  zero-share true s z e = go (z .negative)
-    where
-      go : (n : Bool) → mathlib.Core.Bool.cond (mathlib.Core.Bool.Bool·beq n true) (amount s z) 0 ≡ 0
-      go true = rw e
-      go false = refl
-  zero-share false s z e = go (z .negative)
-    where
-      go : (n : Bool) → mathlib.Core.Bool.cond (mathlib.Core.Bool.Bool·beq n false) (amount s z) 0 ≡ 0
-      go true = refl
-      go false = rw e
-
   sum-zero : result plus o p x y ≡ zeroOf (zeroSign o (x .negative) (y .negative))
   unfolding result add sumAt answer
-  sum-zero = rw (zero-share false _ x a, zero-share false _ y b, zero-share true _ x a, zero-share true _ y b)
+  sum-zero = rw (share-zero false _ x a, share-zero false _ y b, share-zero true _ x a, share-zero true _ y b)
 
   used-none : (t k : ℕ) (z : Operand) → z .isZero ≡ true → limbsUsed t k z ≡ 0
   unfolding limbsUsed

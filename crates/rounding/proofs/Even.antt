@@ -4,11 +4,11 @@ use mathlib.Core.Logic.{_⊎_, inl, inr}
 use Prim.Native.Nat.{ℕ, zero, suc, _+_, _-_, _*_, _/_, _%_, _^_, _≤_, _<_, compare, Ordering, Ordering·lt, Ordering·eq, Ordering·gt}
 use native.Mathlib.Nat.{suc-mul, le-refl, le-trans, le-of-eq, lt-of-lt-of-le, le-antisymm, mul-assoc, mul-le-mul-right, mul-lt-mul-of-pos-right, pow-suc, mul-mod-left, le-div-iff-mul-le}
 use native.Mathlib.Omega.{arith}
-use lib.Pow.{pow-pos, pow-mono, pow-add, pow-lt}
+use lib.Pow.{pow-pos, pow-add, pow-lt}
 use lib.Ieee.{size, nearest}
-use lib.Ieee.Digits.{size-lt, size-le}
 use lib.Ieee.Fits.{nearest-le}
 use lib.Ieee.Nearest.{nearest-ge}
+use Rattle.limb.proofs.Sizes.{size-is}
 use Rattle.rounding.specs.Mode.{near}
 use Rattle.rounding.specs.Select.{quotient, unit, chosen, onGrid}
 use Rattle.rounding.specs.Answer.{digits}
@@ -17,16 +17,7 @@ use Rattle.rounding.proofs.Selection.{Rep, gap, parts, rest-lt, digits-
 use Rattle.rounding.proofs.Order.{le-or-lt, dist, Cmp, cmp, mul-one-one}
 use Rattle.rounding.proofs.Between.{digits-exact}
 
--- ---- a number's size, and its digits
-
-pub size-ge : (n z : ℕ) → 2 ^ z ≤ n → z < size n
-size-ge n z h = elim (le-or-lt (size n) z) [ inl g ↦ absurd (clash (size-lt n) (pow-mono g)) | inr g ↦ g ]
-  where
-    clash : {a : ℕ} → n < a → a ≤ 2 ^ z → ⊥
-    clash a k = omega arith
-
-pub size-is : (n z : ℕ) → 2 ^ z ≤ n → n < 2 ^ suc z → size n ≡ suc z
-size-is n z h k = le-antisymm (size-le n (suc z) k) (size-ge n z h)
+-- ---- a number's digits
 
 pub digits-of : (p q k : ℕ) → 2 ^ p ≤ q → q < 2 ^ suc p → digits (suc p) (q * 2 ^ k) ≡ q
 digits-of p q k h l =

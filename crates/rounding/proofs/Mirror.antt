@@ -1,6 +1,6 @@
 -- Turning both signs exchanges up and down, and turns the answer of a sum that is not 0. (A sum that is 0 keeps its sign: exact cancellation gives +0 either way.)
 use mathlib.Core.Path.{_≡_, refl, sym, ap, _∙_}
-use mathlib.Core.Bool.{Bool, true, false, not, cond, Bool·beq}
+use mathlib.Core.Bool.{Bool, true, false, not, cond, Bool·beq, Bool·not-not}
 use Prim.Native.Nat.{ℕ, _+_, _<_, compare, Ordering, Ordering·lt, Ordering·eq, Ordering·gt}
 use lib.Dec.{ltb}
 use lib.Ieee.{size}
@@ -57,20 +57,20 @@ rounded-negated w p s n m = go (ltb mostExponent (size c + s)) (ltb (size c + s)
 
 -- ---- the operands
 
-share-turned : (n : Bool) (s : ℕ) (x : Operand) → share (not n) s (turned x) ≡ share n s x
+pub share-turned : (b : Bool) (s : ℕ) (x : Operand) → share b s (turned x) ≡ share (not b) s x
 unfolding share turned amount mantissa lastWeight
-share-turned n s x = ap (λ (b : Bool). cond b (amount s x) 0) (same (x .negative) n)
+share-turned b s x = ap (λ (c : Bool). cond c (amount s x) 0) (other (x .negative) b)
   where
-    same : (a b : Bool) → Bool·beq (not a) (not b) ≡ Bool·beq a b
-    same true true = refl
-    same true false = refl
-    same false true = refl
-    same false false = refl
+    other : (a b : Bool) → Bool·beq (not a) b ≡ Bool·beq a (not b)
+    other true true = refl
+    other true false = refl
+    other false true = refl
+    other false false = refl
 
 exact-turned : (s : ℕ) (x y : Operand) (n : Bool) (m : ℕ) → Exact s x y n m → Exact s (turned x) (turned y) (not n) m
-exact-turned s x y n m e = rw (share-turned n s x, share-turned n s y, share-turned (not n) s x, share-turned (not n) s y) e
+exact-turned s x y n m e = rw (Bool·not-not n, share-turned n s x, share-turned n s y, share-turned (not n) s x, share-turned (not n) s y, Bool·not-not n) e
 
-scale-turned : (x y : Operand) → scale (turned x) (turned y) ≡ scale x y
+pub scale-turned : (x y : Operand) → scale (turned x) (turned y) ≡ scale x y
 unfolding scale turned lastWeight
 scale-turned x y = refl
 

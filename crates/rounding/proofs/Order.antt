@@ -1,9 +1,9 @@
 -- Order, comparison and distance of whole numbers, as the other files use them. Assumes nothing.
-use mathlib.Core.Path.{_≡_, refl, sym, subst}
+use mathlib.Core.Path.{_≡_, refl, sym, ap, _∙_, subst}
 use mathlib.Core.Logic.{_⊎_, inl, inr}
 use mathlib.Core.Bool.{Bool, true, false, not}
-use Prim.Native.Nat.{ℕ, _*_, _≤_, _<_, compare, Ordering, Ordering·lt, Ordering·eq, Ordering·gt}
-use native.Mathlib.Nat.{le-antisymm, le-of-eq, le-of-mul-le-mul-right, lt-of-le-of-lt}
+use Prim.Native.Nat.{ℕ, zero, suc, _+_, _-_, _*_, _/_, _%_, _≤_, _<_, compare, Ordering, Ordering·lt, Ordering·eq, Ordering·gt}
+use native.Mathlib.Nat.{le-antisymm, le-of-eq, le-of-mul-le-mul-right, lt-of-le-of-lt, div-eq-of-lt-le, div-add-mod', mul-comm, mul-sub}
 use native.Mathlib.Omega.{arith}
 use lib.Dec.{T, isLe, isEq, leb, leb→le, nleb→lt, eqb, eqb→eq, eqb-refl}
 use lib.Arith.{lt-of-le-ne}
@@ -17,6 +17,24 @@ le-or-lt a b = go (leb a b) (leb→le a b) (nleb→lt a b)
     go : (t : Bool) → (T t → a ≤ b) → (T (not t) → b < a) → (a ≤ b) ⊎ (b < a)
     go true h k = inl (h tt)
     go false h k = inr (k tt)
+
+pub zero-or : (r : ℕ) → (r ≡ 0) ⊎ (0 < r)
+zero-or zero = inl refl
+zero-or (suc r) = inr (omega arith)
+
+-- q units and r more
+module _ (q u r : ℕ) (lt : r < u) where
+  pub units : (q * u + r) / u ≡ q
+  units = div-eq-of-lt-le u (omega arith) (omega arith)
+
+  pub remainder : (q * u + r) % u ≡ r
+  remainder = go ((q * u + r) % u) (ap (λ (z : ℕ). z * u + (q * u + r) % u) (sym units) ∙ div-add-mod' (q * u + r) u)
+    where
+      go : (v : ℕ) → q * u + v ≡ q * u + r → v ≡ r
+      go v e = omega arith
+
+pub sub-mul : (a b c : ℕ) → (a - b) * c ≡ a * c - b * c
+sub-mul a b c = let e = mul-comm c a in let f = mul-comm c b in mul-comm (a - b) c ∙ mul-sub c a b ∙ cc
 
 pub mul-one-one : (a b u : ℕ) → 0 < u → a * u ≡ b * u → a ≡ b
 mul-one-one a b u U e = le-antisymm (le-of-mul-le-mul-right (le-of-eq e) U) (le-of-mul-le-mul-right (le-of-eq (sym e)) U)

@@ -18,10 +18,10 @@ use Rattle.rounding.specs.Paper.{kept}
 use Rattle.rounding.proofs.Order.{compare-at}
 use Rattle.rounding.proofs.Ends.{plus, minus, regular}
 use Rattle.rounding.proofs.Selection.{multiple}
-use Rattle.rounding.proofs.Even.{size-is}
+use Rattle.limb.proofs.Sizes.{size-is}
 use Rattle.rounding.proofs.Scale.{exact}
 use Rattle.rounding.proofs.Range.{accepted}
-use Rattle.rounding.proofs.Zeros.{share-as, share-not-as, share-zero, add-commutes}
+use Rattle.rounding.proofs.Zeros.{share-as, share-other, share-zero, add-commutes}
 
 -- ---- a regular number and a zero
 
@@ -68,10 +68,10 @@ regular-and-zero o p x y P g r u = rw (unit-is x y r u) (go (x .negative) refl)
 
     go : (n : Bool) → x .negative ≡ n → answer z o p s (share false s x + share false s y) (share true s x + share true s y) ≡ rounded (way o n) p s n M
     go false e =
-        rw (share-as false s x e, share-not-as false s x e, share-zero false s y u, share-zero true s y u, amount-own x r)
+        rw (share-as false s x e, share-other true s x e, share-zero false s y u, share-zero true s y u, amount-own x r)
         (plus z o p s P (M + 0) (0 + 0) (more M (mantissa-some x g r)) ∙ ap (rounded (way o false) p s false) (rest M))
     go true e =
-        rw (share-as true s x e, share-not-as true s x e, share-zero false s y u, share-zero true s y u, amount-own x r)
+        rw (share-as true s x e, share-other false s x e, share-zero false s y u, share-zero true s y u, amount-own x r)
         (minus z o p s P (0 + 0) (M + 0) (more M (mantissa-some x g r)) ∙ ap (rounded (way o true) p s true) (rest M))
 
 pub reround-is : (o : Mode) (p : ℕ) (x : Operand) → 0 < p → WellFormed x → x .isZero ≡ false → reround o p x ≡ rounded (way o (x .negative)) p (lastWeight x) (x .negative) (mantissa x)

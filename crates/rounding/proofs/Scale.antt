@@ -14,7 +14,7 @@ use Rattle.rounding.specs.Select.{quotient, unit, chosen, onGrid}
 use Rattle.rounding.specs.Answer.{digits, rounded}
 use Rattle.rounding.proofs.Selection.{Rep, unit-pos, under-le, under-largest, over-ge, over-smallest, near-closest, chosen-mono}
 use Rattle.rounding.proofs.Order.{le-or-lt, dist, Cmp, cmp, compare-at}
-use Rattle.rounding.proofs.Even.{size-is}
+use Rattle.limb.proofs.Sizes.{size-is}
 
 -- ---- a p-digit number selects itself
 

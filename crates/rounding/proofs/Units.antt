@@ -1,9 +1,8 @@
 -- The unit in which an exact sum is counted does not matter, and a power of two moves only the answer's exponent.
 use mathlib.Core.Path.{_≡_, refl, sym, ap, _∙_}
-use mathlib.Core.Logic.{_⊎_, inl, inr}
-use mathlib.Core.Bool.{Bool, true, false, cond, Bool·beq}
+use mathlib.Core.Bool.{Bool, true, false, cond, Bool·beq, true≢false}
 use Prim.Native.Nat.{ℕ, _+_, _-_, _*_, _^_, _≤_, _<_, compare, min, Ordering, Ordering·lt, Ordering·eq, Ordering·gt}
-use native.Mathlib.Nat.{le-refl, mul-comm, mul-assoc, mul-sub, add-mul, min-le-left, min-le-right, le-min, mul-lt-mul-of-pos-right, le-trans}
+use native.Mathlib.Nat.{le-refl, mul-assoc, add-mul, min-le-left, min-le-right, le-min, mul-lt-mul-of-pos-right, le-trans}
 use native.Mathlib.Omega.{arith}
 use lib.Pow.{pow-pos, pow-add}
 use lib.Ieee.{size}
@@ -13,15 +12,12 @@ use Rattle.rounding.specs.Mode.{Mode, Way, way}
 use Rattle.rounding.specs.Select.{chosen}
 use Rattle.rounding.specs.Answer.{number, digits, signed, rounded, answer}
 use Rattle.rounding.specs.Sum.{scale, amount, share, zeroSign, sumAt, add}
-use Rattle.rounding.proofs.Order.{Cmp, cmp}
+use Rattle.rounding.proofs.Order.{Cmp, cmp, sub-mul}
 use Rattle.rounding.proofs.Ends.{plus, minus, nought}
 use Rattle.rounding.proofs.Scale.{rounded-shift}
 use Rattle.rounding.proofs.Range.{accepted, accepted-only}
 
 -- ---- the exact value a - b in units 2 ^ j times smaller
-
-sub-mul : (a b v : ℕ) → a * v - b * v ≡ (a - b) * v
-sub-mul a b v = ap (λ (x : ℕ). x - b * v) (mul-comm a v) ∙ ap (λ (x : ℕ). v * a - x) (mul-comm b v) ∙ sym (mul-sub v a b) ∙ mul-comm v (a - b)
 
 pub answer-shift : (z : Bool) (o : Mode) (p s a b j : ℕ) → 0 < p → answer z o p s (a * 2 ^ j) (b * 2 ^ j) ≡ answer z o p (j + s) a b
 answer-shift z o p s a b j P = go (compare a b) (cmp a b)
@@ -31,28 +27,27 @@ answer-shift z o p s a b j P = go (compare a b) (cmp a b)
 
     go : (x : Ordering) → Cmp x a b → answer z o p s (a * 2 ^ j) (b * 2 ^ j) ≡ answer z o p (j + s) a b
     go Ordering·gt h =
-        plus z o p s P (a * 2 ^ j) (b * 2 ^ j) (mul-lt-mul-of-pos-right h (pow-pos j)) ∙ ap (rounded (way o false) p s false) (sub-mul a b (2 ^ j))
+        plus z o p s P (a * 2 ^ j) (b * 2 ^ j) (mul-lt-mul-of-pos-right h (pow-pos j)) ∙ ap (rounded (way o false) p s false) (sym (sub-mul a b (2 ^ j)))
         ∙ rounded-shift (way o false) p s false (a - b) j P (some a b h) ∙ sym (plus z o p (j + s) P a b h)
     go Ordering·lt h =
-        minus z o p s P (a * 2 ^ j) (b * 2 ^ j) (mul-lt-mul-of-pos-right h (pow-pos j)) ∙ ap (rounded (way o true) p s true) (sub-mul b a (2 ^ j))
+        minus z o p s P (a * 2 ^ j) (b * 2 ^ j) (mul-lt-mul-of-pos-right h (pow-pos j)) ∙ ap (rounded (way o true) p s true) (sym (sub-mul b a (2 ^ j)))
         ∙ rounded-shift (way o true) p s true (b - a) j P (some b a h) ∙ sym (minus z o p (j + s) P a b h)
     go Ordering·eq h = nought z o p s P (a * 2 ^ j) (b * 2 ^ j) (ap (λ (x : ℕ). x * 2 ^ j) h) ∙ sym (nought z o p (j + s) P a b h)
 
 -- ---- the sum in any unit that is not above either operand's last weight
 
-amount-unit : (s t : ℕ) (x : Operand) → s ≤ t → (x .isZero ≡ true) ⊎ (t ≤ lastWeight x) → amount s x ≡ amount t x * 2 ^ (t - s)
+amount-unit : (s t : ℕ) (x : Operand) → s ≤ t → (x .isZero ≡ false → t ≤ lastWeight x) → amount s x ≡ amount t x * 2 ^ (t - s)
 unfolding amount
 amount-unit s t x h k = go (x .isZero) k
   where
     steps : (w : ℕ) → t ≤ w → w - s ≡ w - t + (t - s)
     steps w l = omega arith
 
-    go : (z : Bool) → (z ≡ true) ⊎ (t ≤ lastWeight x) → cond z 0 (mantissa x * 2 ^ (lastWeight x - s)) ≡ cond z 0 (mantissa x * 2 ^ (lastWeight x - t)) * 2 ^ (t - s)
+    go : (z : Bool) → (z ≡ false → t ≤ lastWeight x) → cond z 0 (mantissa x * 2 ^ (lastWeight x - s)) ≡ cond z 0 (mantissa x * 2 ^ (lastWeight x - t)) * 2 ^ (t - s)
     go true k = omega arith
-    go false (inl e) = let z : _≡_ {A = ℕ} 0 1 = cc in absurd (omega arith)
-    go false (inr l) = ap (λ (e : ℕ). mantissa x * 2 ^ e) (steps (lastWeight x) l) ∙ ap (λ (e : ℕ). mantissa x * e) (pow-add 2 (lastWeight x - t) (t - s)) ∙ sym (mul-assoc (mantissa x) (2 ^ (lastWeight x - t)) (2 ^ (t - s)))
+    go false k = ap (λ (e : ℕ). mantissa x * 2 ^ e) (steps (lastWeight x) (k refl)) ∙ ap (λ (e : ℕ). mantissa x * e) (pow-add 2 (lastWeight x - t) (t - s)) ∙ sym (mul-assoc (mantissa x) (2 ^ (lastWeight x - t)) (2 ^ (t - s)))
 
-share-unit : (b : Bool) (s t : ℕ) (x : Operand) → s ≤ t → (x .isZero ≡ true) ⊎ (t ≤ lastWeight x) → share b s x ≡ share b t x * 2 ^ (t - s)
+share-unit : (b : Bool) (s t : ℕ) (x : Operand) → s ≤ t → (x .isZero ≡ false → t ≤ lastWeight x) → share b s x ≡ share b t x * 2 ^ (t - s)
 unfolding share
 share-unit b s t x h k = go (Bool·beq (x .negative) b)
   where
@@ -61,23 +56,23 @@ share-unit b s t x h k = go (Bool·beq (x .negative) b)
     go false = omega arith
 
 -- the unit of `add` is not above the last weight of an operand that is worth something, and is one of the two
-scale-first : (x y : Operand) → (x .isZero ≡ true) ⊎ (scale x y ≤ lastWeight x)
+pub scale-first : (x y : Operand) → x .isZero ≡ false → scale x y ≤ lastWeight x
 unfolding scale
 scale-first x y = go (x .isZero) (y .isZero)
   where
-    go : (a b : Bool) → (a ≡ true) ⊎ (cond a (lastWeight y) (cond b (lastWeight x) (min (lastWeight x) (lastWeight y))) ≤ lastWeight x)
-    go true b = inl refl
-    go false true = inr (le-refl (lastWeight x))
-    go false false = inr (min-le-left (lastWeight x) (lastWeight y))
+    go : (a b : Bool) → a ≡ false → cond a (lastWeight y) (cond b (lastWeight x) (min (lastWeight x) (lastWeight y))) ≤ lastWeight x
+    go true b r = absurd (true≢false r)
+    go false true r = le-refl (lastWeight x)
+    go false false r = min-le-left (lastWeight x) (lastWeight y)
 
-scale-second : (x y : Operand) → (y .isZero ≡ true) ⊎ (scale x y ≤ lastWeight y)
+pub scale-second : (x y : Operand) → y .isZero ≡ false → scale x y ≤ lastWeight y
 unfolding scale
 scale-second x y = go (x .isZero) (y .isZero)
   where
-    go : (a b : Bool) → (b ≡ true) ⊎ (cond a (lastWeight y) (cond b (lastWeight x) (min (lastWeight x) (lastWeight y))) ≤ lastWeight y)
-    go a true = inl refl
-    go true false = inr (le-refl (lastWeight y))
-    go false false = inr (min-le-right (lastWeight x) (lastWeight y))
+    go : (a b : Bool) → b ≡ false → cond a (lastWeight y) (cond b (lastWeight x) (min (lastWeight x) (lastWeight y))) ≤ lastWeight y
+    go a true q = absurd (true≢false q)
+    go true false q = le-refl (lastWeight y)
+    go false false q = min-le-right (lastWeight x) (lastWeight y)
 
 scale-ge : (s : ℕ) (x y : Operand) → s ≤ lastWeight x → s ≤ lastWeight y → s ≤ scale x y
 unfolding scale

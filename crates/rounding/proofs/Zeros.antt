@@ -1,8 +1,8 @@
 -- The rules for zeros: which sums are a zero, and with which sign. Either order of the operands gives one answer.
-use mathlib.Core.Path.{_≡_, refl, sym, ap, _∙_, subst}
+use mathlib.Core.Path.{_≡_, refl, sym, ap, _∙_}
 use mathlib.Core.Logic.{_⊎_, inl, inr}
 use mathlib.Core.Bool.{Bool, true, false, not, cond, Bool·beq, Bool·not-not, true≢false}
-use Prim.Native.Nat.{ℕ, _+_, _-_, _<_, compare, min, Ordering, Ordering·lt, Ordering·eq, Ordering·gt}
+use Prim.Native.Nat.{ℕ, _+_, _-_, _*_, _^_, _<_, compare, min, Ordering, Ordering·lt, Ordering·eq, Ordering·gt}
 use native.Mathlib.Nat.{add-comm, min-comm}
 use native.Mathlib.Omega.{arith}
 use Rattle.numbers.specs.Operand.{Operand, mantissa, lastWeight, turned, zeroLike}
@@ -14,21 +14,13 @@ use Rattle.rounding.proofs.Ends.{plus, minus, nought, regular}
 
 -- ---- what an operand adds to either sign
 
-share-own : (s : ℕ) (x : Operand) → share (x .negative) s x ≡ amount s x
-unfolding share
-share-own s x = go (x .negative)
-  where
-    go : (n : Bool) → cond (Bool·beq n n) (amount s x) 0 ≡ amount s x
-    go true = refl
-    go false = refl
+pub amount-zero : (s : ℕ) (x : Operand) → x .isZero ≡ true → amount s x ≡ 0
+unfolding amount
+amount-zero s x z = rw z
 
-share-other : (s : ℕ) (x : Operand) → share (not (x .negative)) s x ≡ 0
-unfolding share
-share-other s x = go (x .negative)
-  where
-    go : (n : Bool) → cond (Bool·beq n (not n)) (amount s x) 0 ≡ 0
-    go true = refl
-    go false = refl
+pub amount-is : (s : ℕ) (x : Operand) → x .isZero ≡ false → amount s x ≡ mantissa x * 2 ^ (lastWeight x - s)
+unfolding amount
+amount-is s x r = rw r
 
 pub share-zero : (b : Bool) (s : ℕ) (x : Operand) → x .isZero ≡ true → share b s x ≡ 0
 unfolding share amount
@@ -39,10 +31,14 @@ share-zero b s x z = rw z (go (Bool·beq (x .negative) b))
     go false = refl
 
 pub share-as : (b : Bool) (s : ℕ) (x : Operand) → x .negative ≡ b → share b s x ≡ amount s x
-share-as b s x e = subst (λ (c : Bool). share c s x ≡ amount s x) e (share-own s x)
+unfolding share
+share-as true s x e = rw e
+share-as false s x e = rw e
 
-pub share-not-as : (b : Bool) (s : ℕ) (x : Operand) → x .negative ≡ b → share (not b) s x ≡ 0
-share-not-as b s x e = subst (λ (c : Bool). share (not c) s x ≡ 0) e (share-other s x)
+pub share-other : (b : Bool) (s : ℕ) (x : Operand) → x .negative ≡ not b → share b s x ≡ 0
+unfolding share
+share-other true s x e = rw e
+share-other false s x e = rw e
 
 -- a sum that is 0 is answered by a zero, with the sign of the one rule
 pub zero-of-zero : (o : Mode) (p : ℕ) (x y : Operand) → 0 < p
@@ -103,16 +99,16 @@ cancellation o p x y P e a = zero-of-zero o p x y P (go (x .negative) refl) ∙ 
     go false f =
         let g : y .negative ≡ true = e ∙ ap not f in
         let h = share-as false s x f in
-        let i = share-not-as false s x f in
+        let i = share-other true s x f in
         let j = share-as true s y g in
-        let k = share-not-as true s y g in
+        let k = share-other false s y g in
         omega arith
     go true f =
         let g : y .negative ≡ false = e ∙ ap not f in
         let h = share-as true s x f in
-        let i = share-not-as true s x f in
+        let i = share-other false s x f in
         let j = share-as false s y g in
-        let k = share-not-as false s y g in
+        let k = share-other true s y g in
         omega arith
 
 pub self-cancels : (o : Mode) (p : ℕ) (x : Operand) → 0 < p → subtract o p x x ≡ zeroOf false
@@ -141,14 +137,14 @@ zero-only-of-zero o p x y t P e = go (compare a b) (cmp a b)
 
 -- ---- either order
 
-sign-commutes : (o : Mode) (a b : Bool) → zeroSign o a b ≡ zeroSign o b a
+pub sign-commutes : (o : Mode) (a b : Bool) → zeroSign o a b ≡ zeroSign o b a
 unfolding zeroSign
 sign-commutes o true true = refl
 sign-commutes o true false = refl
 sign-commutes o false true = refl
 sign-commutes o false false = refl
 
-scale-commutes : (x y : Operand) → (x .isZero ≡ false) ⊎ (y .isZero ≡ false) → scale x y ≡ scale y x
+pub scale-commutes : (x y : Operand) → (x .isZero ≡ false) ⊎ (y .isZero ≡ false) → scale x y ≡ scale y x
 unfolding scale
 scale-commutes x y h = go (x .isZero) (y .isZero) h
   where

@@ -7,13 +7,13 @@ use native.Mathlib.Nat.{pow-zero, pow-succ', add-assoc, add-sub-of-le}
 use native.Mathlib.Numerals.{add-one}
 use native.Mathlib.Omega.{arith}
 use lib.ListN.{length, take, drop, set, getD, take-append-drop, length-set, length-drop}
-use lib.Pow.{pow-add}
-use lib.Seq.{getD-drop, take-add, length-take-le}
+use lib.Seq.{take-add, length-take-le}
 use borrow.Rule.Slice.PartMut.{putMid, take-put, same-len-mid}
+use Rattle.limb.proofs.Powers.{pow-split}
 use Rattle.limb.specs.Carry.{bit}
 use Rattle.limb.specs.Value.{valueIn, Below}
 use Rattle.limb.proofs.Carry.{sum-unique, difference-unique}
-use Rattle.limb.proofs.Value.{value-nil, value-take, value-set, value-append, value-split, value-lt, value-unique}
+use Rattle.limb.proofs.Value.{value-nil, value-take, value-set, value-append, value-split, value-lt, value-unique, below-part, value-kept}
 use Rattle.run.specs.Sum.{LimbAdded, Added, Subtracted, Reversed, AddedAt, SubtractedAt}
 use Rattle.parts.proofs.Parts.{part-is, drop-put}
 
@@ -96,20 +96,17 @@ module _ (xs ys : List ℕ) (p q : Bool) (hx : Below (2 ^ 64) xs) (hy : Below (2
 
 -- the same where the part of the target from limb start on is worked on
 module _ (start : ℕ) (xs ys : List ℕ) (p q : Bool) (hx : Below (2 ^ 64) xs) (hy : Below (2 ^ 64) ys) (before operand : List ℕ) (carry : Bool) where
-  below-part : (l : List ℕ) → Below (2 ^ 64) l → Below (2 ^ 64) (drop start l)
-  below-part l h i = rw (getD-drop start l i 0) (h (start + i))
-
   joined : take start xs ≡ take start ys → drop start xs ≡ drop start ys → xs ≡ ys
   joined e f = sym (take-append-drop start xs) ∙ ap (λ (l : List ℕ). l ++ drop start xs) e ∙ ap (λ (l : List ℕ). take start ys ++ l) f ∙ take-append-drop start ys
 
   pub added-at-unique : AddedAt start before operand carry xs p → AddedAt start before operand carry ys q → (xs ≡ ys) × (p ≡ q)
   added-at-unique a b =
-      let e = added-unique (drop start xs) (drop start ys) p q (below-part xs hx) (below-part ys hy) (drop start before) operand carry (a .part) (b .part) in
+      let e = added-unique (drop start xs) (drop start ys) p q (below-part (2 ^ 64) start xs hx) (below-part (2 ^ 64) start ys hy) (drop start before) operand carry (a .part) (b .part) in
       (joined (a .below ∙ sym (b .below)) (e .0), e .1)
 
   pub subtracted-at-unique : SubtractedAt start before operand carry xs p → SubtractedAt start before operand carry ys q → (xs ≡ ys) × (p ≡ q)
   subtracted-at-unique a b =
-      let e = subtracted-unique (drop start xs) (drop start ys) p q (below-part xs hx) (below-part ys hy) (drop start before) operand carry (a .part) (b .part) in
+      let e = subtracted-unique (drop start xs) (drop start ys) p q (below-part (2 ^ 64) start xs hx) (below-part (2 ^ 64) start ys hy) (drop start before) operand carry (a .part) (b .part) in
       (joined (a .below ∙ sym (b .below)) (e .0), e .1)
 
 -- the value of a target whose part from limb start on is worked on: l is what stays below, h and g the part before and after
@@ -125,22 +122,16 @@ module _ (start : ℕ) (before operand : List ℕ) (carry : Bool) (after : List 
   abbrev B : ℕ
   B = 2 ^ 64
 
-  part-split : take start after ≡ take start before → valueIn B after ≡ valueIn B (take start before) + B ^ start * valueIn B (drop start after)
-  part-split e = value-split B start after ∙ ap (λ (l : List ℕ). valueIn B l + B ^ start * valueIn B (drop start after)) e
-
-  top-split : B ^ length before ≡ B ^ start * B ^ (length before - start)
-  top-split = ap (λ (m : ℕ). B ^ m) (sym (add-sub-of-le fits)) ∙ pow-add B start (length before - start)
-
   pub added-at-value : AddedAt start before operand carry after out
       → valueIn B after + B ^ length before * bit out ≡ valueIn B before + B ^ start * (valueIn B (take (length before - start) operand) + bit carry)
   added-at-value a =
-      raised-sum (B ^ start) (B ^ (length before - start)) _ _ _ _ (bit carry) (bit out) _ _ _ (value-split B start before) (part-split (a .below)) top-split
+      raised-sum (B ^ start) (B ^ (length before - start)) _ _ _ _ (bit carry) (bit out) _ _ _ (value-split B start before) (value-kept B start before after (a .below)) (pow-split B start (length before) fits)
       (rw length-drop at (a .part .value))
 
   pub subtracted-at-value : SubtractedAt start before operand carry after out
       → valueIn B after + B ^ start * (valueIn B (take (length before - start) operand) + bit carry) ≡ valueIn B before + B ^ length before * bit out
   subtracted-at-value a =
-      raised-difference (B ^ start) (B ^ (length before - start)) _ _ _ _ (bit carry) (bit out) _ _ _ (value-split B start before) (part-split (a .below)) top-split
+      raised-difference (B ^ start) (B ^ (length before - start)) _ _ _ _ (bit carry) (bit out) _ _ _ (value-split B start before) (value-kept B start before after (a .below)) (pow-split B start (length before) fits)
       (rw length-drop at (a .part .value))
 
 -- the lowest n limbs of the operand: those below limb i, and the others

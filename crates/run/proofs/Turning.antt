@@ -3,13 +3,13 @@ use mathlib.Core.Path.{_≡_, refl, sym, ap, _∙_}
 use mathlib.Core.Bool.{Bool}
 use mathlib.Core.List.{List}
 use Prim.Native.Nat.{ℕ, _+_, _-_, _*_, _^_, _≤_, _<_}
-use native.Mathlib.Nat.{pow-zero, pow-succ', add-zero, add-sub-of-le}
+use native.Mathlib.Nat.{pow-zero, pow-succ', add-zero}
 use native.Mathlib.Numerals.{add-one}
 use native.Mathlib.Omega.{arith}
 use lib.ListN.{length, take, drop, set, getD, length-set, length-drop}
-use lib.Pow.{pow-add}
 use lib.Seq.{take-length, take-set-le, getD-set-same, getD-drop, drop-drop, drop-set-lt}
 use borrow.Rule.Slice.PartMut.{putMid, same-len-mid}
+use Rattle.limb.proofs.Powers.{pow-split}
 use Rattle.limb.specs.Carry.{bit}
 use Rattle.limb.specs.Value.{valueIn}
 use Rattle.limb.proofs.Value.{value-nil, value-take, value-split}
@@ -82,15 +82,12 @@ module _ (t₀ o : List ℕ) (first : Bool) (t : List ℕ) (k : Bool) (i : ℕ) 
   abbrev after : List ℕ
   after = putMid i (length t - i) t part
 
-  top : B ^ length t₀ ≡ B ^ i * B ^ (length t₀ - i)
-  top = ap (λ (m : ℕ). B ^ m) (sym (add-sub-of-le hi)) ∙ pow-add B i (length t₀ - i)
-
   pub rest-turned : TurnedTo i t₀ o first t k → Reversed (drop i t) (drop i o) k part out → Reversed t₀ o first after out
   rest-turned a r =
       let h : i ≤ length t = omega (arith, a .same-length) in
       record {
         same-length = same-len-mid i (length t - i) t part (rw (part-is t i) (r .same-length)) ∙ a .same-length;
         value =
-            rw (put-value t part i h B, value-split B i t₀, limbs-from B o i (length t₀) hi ho, top)
+            rw (put-value t part i h B, value-split B i t₀, limbs-from B o i (length t₀) hi ho, pow-split B i (length t₀) hi)
             (difference-joined (B ^ i) (B ^ (length t₀ - i)) _ _ _ _ _ _ (bit first) (bit k) (bit out) (a .value) (rw (a .above, length-drop) at (r .value)));
       }

@@ -12,7 +12,7 @@ use Rattle.limb.specs.Carry.{bit}
 use Rattle.rounding.specs.Mode.{Way}
 use Rattle.rounding.specs.Select.{unit, chosen, onGrid}
 use Rattle.rounding.proofs.Order.{le-or-lt}
-use Rattle.rounding.proofs.Even.{size-is, size-ge}
+use Rattle.limb.proofs.Sizes.{size-is, size-ge}
 use Rattle.location.specs.declared.Location.{Location}
 use Rattle.location.specs.Location.{fromMiddle, locationOf, goesUp, side}
 use Rattle.location.proofs.Locating.{at-something, selected-at, side-at}

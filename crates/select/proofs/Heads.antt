@@ -2,13 +2,14 @@
 use mathlib.Core.Path.{_≡_, refl, sym, ap, _∙_}
 use mathlib.Core.Bool.{Bool, true, false, not}
 use mathlib.Core.List.{List, [], _∷_}
-use Prim.Native.Nat.{ℕ, zero, suc, _+_, _-_, _*_, _%_, _^_, _<_}
-use native.Mathlib.Nat.{le-of-eq, pow-succ', mul-le-mul-right, zero-mul}
+use Prim.Native.Nat.{ℕ, suc, _+_, _-_, _*_, _%_, _^_, _<_}
+use native.Mathlib.Nat.{le-of-eq, pow-succ', mul-le-mul-right}
 use native.Mathlib.Omega.{arith}
 use lib.Dec.{eqb}
 use lib.ListN.{length, getD, take, drop}
 use lib.Seq.{take-all}
 use borrow.Author.Tests.{eq-eqb, ne-eqb, eqb-true, eqb-false}
+use Rattle.limb.proofs.Tests.{zero-times}
 use Rattle.limb.specs.Value.{valueIn, valueOf, Below}
 use Rattle.limb.proofs.Value.{value-take, value-take-lt, value-low, base-pow}
 use Rattle.select.specs.declared.Head.{Head}
@@ -21,13 +22,6 @@ same-zero a b f g = go (eqb a 0) refl
     go : (t : Bool) → eqb a 0 ≡ t → eqb a 0 ≡ eqb b 0
     go true e = e ∙ sym (eq-eqb b 0 (f (eqb-true a 0 e)))
     go false e = e ∙ sym (ne-eqb b 0 (λ z. eqb-false a 0 e (g z)))
-
-scaled-zero : (B v : ℕ) → 0 < B → eqb (v * B) 0 ≡ eqb v 0
-scaled-zero B v h = same-zero (v * B) v (back v) (λ e. ap (λ (n : ℕ). n * B) e ∙ zero-mul B)
-  where
-    back : (v : ℕ) → v * B ≡ 0 → v ≡ 0
-    back zero e = refl
-    back (suc v) e = absurd (omega arith)
 
 -- the limbs of l below the two highest, in any base
 module _ (B k : ℕ) (l : List ℕ) (below : Below B l) (count : length l ≡ suc (suc k)) where
@@ -80,7 +74,7 @@ leads-many k l h below count t g m =
       rest = valueOf (take k l) * 2 ^ 64;
       few = rw p (few-below (2 ^ 64) k l below count);
       value = rw (p, t, g) (whole (2 ^ 64) k l below count);
-      more = m ∙ ap not (sym (scaled-zero (2 ^ 64) (valueOf (take k l)) (omega arith)));
+      more = m ∙ ap not (sym (zero-times (valueOf (take k l)) (2 ^ 64) (omega arith)));
     }
 
 -- as the code reaches them

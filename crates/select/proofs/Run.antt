@@ -1,6 +1,6 @@
 -- The run that is rounded, two limbs and whether anything stands below, answers as the whole number does. Assumes nothing.
 use mathlib.Core.Path.{_≡_, refl, sym, ap, _∙_}
-use mathlib.Core.Bool.{Bool, true, false, not, _&&_}
+use mathlib.Core.Bool.{Bool, true, false, not}
 use mathlib.Core.List.{List, [], _∷_}
 use Prim.Native.Nat.{ℕ, suc, _+_, _-_, _*_, _/_, _%_, _^_, _≤_, _<_, compare}
 use native.Mathlib.Nat.{lt-of-lt-of-le, div-add-mod', pow-succ'}
@@ -9,6 +9,7 @@ use lib.Dec.{eqb}
 use lib.ListN.{length, getD}
 use lib.Pow.{pow-pos}
 use borrow.Author.Tests.{eqb-true, eqb-false, lt-ltb, le-leb}
+use Rattle.limb.proofs.Tests.{and-both}
 use Rattle.limb.specs.Carry.{bit}
 use Rattle.limb.specs.Value.{valueIn, valueOf}
 use Rattle.numbers.specs.Limits.{leastPrecision, mostPrecision, bias, leastExponent, mostExponent, limbsFor}
@@ -175,10 +176,7 @@ module _ (x : Operand) (g : WellFormed x) (r : x .isZero ≡ false) where
     unfolding leastPrecision mostPrecision limbsFor
     passes =
         rule-none 53 false (h .top ∷ []) (x .exponent - 128) refl refl
-        (both (lt-ltb 0 (x .exponent - 128) (unit-fits .0)) (le-leb (x .exponent - 128) (2 * mostExponent) (unit-fits .1))) (lt-ltb 0 (h .top) (omega (arith, top-large)))
-      where
-        both : {a c : Bool} → a ≡ true → c ≡ true → (a && c) ≡ true
-        both e f = rw (e, f) refl
+        (and-both (lt-ltb 0 (x .exponent - 128) (unit-fits .0)) (le-leb (x .exponent - 128) (2 * mostExponent) (unit-fits .1))) (lt-ltb 0 (h .top) (omega (arith, top-large)))
 
     -- what is placed and what is left in the limb are those of the number re-rounded to 53 digits
     pub selects : (p : Placed) (t : List ℕ) (u : ℕ) → u ≡ x .exponent → p ≡ roundedPlaced mode 53 (x .negative) (u - 128) false (h .top ∷ []) (h .guard) (h .more)

@@ -1,7 +1,7 @@
 -- Remainders by a power of two: of the number one less, and parity.
 use mathlib.Core.Path.{_≡_, refl, sym, ap, _∙_, subst}
 use mathlib.Core.Logic.{_⊎_, inl, inr}
-use mathlib.Core.Bool.{Bool, true, false, not, _&&_}
+use mathlib.Core.Bool.{not}
 use Prim.Native.Nat.{ℕ, zero, suc, _+_, _-_, _*_, _/_, _%_, _^_, _≤_, _<_}
 use native.Mathlib.Nat.{le-of-eq, lt-of-le-of-lt, suc-mod, mod-lt, mod-self, mod-eq-of-lt, mul-mod-left, div-add-mod', pow-succ'}
 use native.Mathlib.Omega.{arith}
@@ -10,17 +10,7 @@ use lib.Pow.{pow-pos, pow-add, mod-mod-pow}
 use lib.Ieee.{size}
 use lib.Ieee.Digits.{size-lt, size-reaches}
 use Rattle.rounding.proofs.Order.{le-or-lt, mul-one-one}
-use Rattle.rounding.proofs.Even.{size-is}
-
-pub and-swap : (a b : Bool) → (a && b) ≡ (b && a)
-and-swap true true = refl
-and-swap true false = refl
-and-swap false true = refl
-and-swap false false = refl
-
-pub and-false : (a : Bool) → (a && false) ≡ false
-and-false true = refl
-and-false false = refl
+use Rattle.limb.proofs.Sizes.{size-is}
 
 -- odd is not even
 pub odd-even : (q : ℕ) → eqb (q % 2) 1 ≡ not (eqb (q % 2) 0)

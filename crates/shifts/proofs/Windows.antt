@@ -1,7 +1,7 @@
 -- Laws of a run read at any bit: 64 bits lie in one limb or across two, and a run moved by bits is made of such windows. Assumes nothing.
 use mathlib.Core.Path.{_≡_, refl, sym, ap, _∙_, subst}
 use Prim.Native.Nat.{ℕ, suc, _+_, _-_, _*_, _/_, _%_, _^_, _≤_, _<_}
-use native.Mathlib.Nat.{add-mul-div-left, add-mul-mod-self-left, add-mod-mod, mod-add-div, mod-eq-of-lt, mod-lt, mul-mod-left, mul-one, add-comm, add-zero, mul-assoc, div-one, mod-one}
+use native.Mathlib.Nat.{add-mul-div-left, add-mul-mod-self-left, add-mod-mod, mod-add-div, mod-eq-of-lt, mod-lt, mul-mod-left, mul-one, add-comm, add-zero, div-one, mod-one}
 use native.Mathlib.Omega.{arith}
 use native.Mathlib.Numerals.{add-one}
 use mathlib.Core.List.{List}
@@ -11,6 +11,7 @@ use lib.Pow.{pow-pos, pow-add, mod-pow-add, shl-shr, shr-shr, shr-lt}
 use lib.Seq.{take-length, take-set-le, getD-set-same}
 use lib.Bits.{bitOr, or-shifted-r}
 use borrow.Rule.Slice.PartMut.{putMid, same-len-mid}
+use Rattle.limb.proofs.Powers.{moved-twice}
 use Rattle.limb.specs.Value.{valueIn, Below}
 use Rattle.limb.proofs.Value.{value-nil, value-unique, value-take, value-drop, value-shr, base-pow}
 use Rattle.shifts.specs.LowLimbs.{LowLimbs}
@@ -40,10 +41,6 @@ window-bits t u l h r hl =
     let dropped : (x + (h * q + b * (q * r))) % b ≡ (x + h * q) % b = ap (λ (m : ℕ). m % b) (omega arith) ∙ add-mul-mod-self-left (x + h * q) b (q * r) in
     let pieces : (x + h * q) % b ≡ y * q + x = sym (add-mod-mod x (h * q) b) ∙ ap (λ (m : ℕ). (x + m) % b) (kept h t u) ∙ ap (λ (m : ℕ). m % b) (add-comm x (y * q)) ∙ mod-eq-of-lt small in
     ap (λ (m : ℕ). m % b) moved ∙ dropped ∙ pieces ∙ sym (ap (λ (m : ℕ). bitOr x m) (kept h t u) ∙ or-shifted-r y u x hx)
-
--- moved up by m and n bits at once
-moved-twice : (x m n : ℕ) → x * 2 ^ (m + n) ≡ x * 2 ^ m * 2 ^ n
-moved-twice x m n = ap (λ (p : ℕ). x * p) (pow-add 2 m n) ∙ sym (mul-assoc x (2 ^ m) (2 ^ n))
 
 -- a limb moved up by 1 bit and then by 63 - t bits
 kept-times : (B x p : ℕ) → x % B * p % B ≡ x * p % B

@@ -7,6 +7,7 @@ use native.Mathlib.Omega.{arith}
 use native.Mathlib.Decide.{decLe}
 use lib.ListN.{length, take}
 use lib.Seq.{length-take-le}
+use Rattle.limb.proofs.Tests.{true-false}
 use Rattle.checks.specs.Check.{accepted}
 use Rattle.reports.specs.declared.report.Sum.{Sum}
 use Rattle.reports.proofs.Agree.{accepted-or, reported-unique}
@@ -20,7 +21,7 @@ use Rattle.stream.specs.Desk.{Printed, nothing, noSecond, noThird, group
 use Rattle.stream.specs.Serving.{State, groupOf, Serves, ended, full, waits, answers, Ends, isReady, ServedBy, Finished}
 use Rattle.cutting.proofs.Resuming.{resume}
 use Rattle.stream.proofs.Printing.{ended-printed}
-use Rattle.stream.proofs.Pieces.{true-false, onto-as-long}
+use Rattle.stream.proofs.Pieces.{onto-as-long}
 
 pub answered-unique : (a b c o p : List ℕ) → Answered a b c o → Answered a b c p → o ≡ p
 answered-unique a b c o p x y = go (accepted-or (groupRefusal a b c))

@@ -7,8 +7,8 @@ use native.Mathlib.Decide.{decLe, ℕ-discrete}
 use borrow.Author.Tests.{lt-ltb, ne-eqb, eq-eqb}
 use lib.ListN.{length}
 use lib.Seq.{take-all, length-take-le}
+use Rattle.desklines.proofs.Orders.{refused-size}
 use Rattle.checks.specs.declared.Refusal.{Refusal}
-use Rattle.checks.specs.Check.{firstRefusal}
 use Rattle.lines.specs.Line.{longestLine, shortestLine}
 use Rattle.desklines.specs.Order.{orderSize, orderRefusal}
 use Rattle.desklines.specs.Answer.{refusalLine, numberRefusal, earlier, linesRefusal, groupRefusal, Answered}
@@ -52,10 +52,6 @@ cut-number place l = go (decLe (length l) lineRoom)
         let e : length (cutLine l) ≡ lineRoom = long-cut l (omega arith) in
         long-number place (cutLine l) (omega (arith, e, room-over)) ∙ sym (long-number place l (omega (arith, room-over)))
 
-wrong-order : (l : List ℕ) → (length l ≡ orderSize → ⊥) → orderRefusal l ≡ record { rule = 8; place = 3 }
-unfolding orderRefusal firstRefusal
-wrong-order l n = simp (ne-eqb (length l) orderSize n)
-
 cut-order : (l : List ℕ) → orderRefusal (cutLine l) ≡ orderRefusal l
 cut-order l = go (decLe (length l) lineRoom)
   where
@@ -63,14 +59,14 @@ cut-order l = go (decLe (length l) lineRoom)
     go (yes h) = ap orderRefusal (short-cut l h)
     go (no h) =
         let e : length (cutLine l) ≡ lineRoom = long-cut l (omega arith) in
-        wrong-order (cutLine l) (λ k. omega (arith, e, k, order-under)) ∙ sym (wrong-order l (λ k. omega (arith, k, order-under)))
+        refused-size (cutLine l) (λ k. omega (arith, e, k, order-under)) ∙ sym (refused-size l (λ k. omega (arith, k, order-under)))
 
 accepted-order : (l : List ℕ) → orderRefusal l .rule ≡ 0 → length l ≤ lineRoom
 accepted-order l z = go (decLe (length l) lineRoom)
   where
     go : Dec (length l ≤ lineRoom) → length l ≤ lineRoom
     go (yes h) = h
-    go (no h) = let e : _≡_ {A = ℕ} 8 0 = sym (ap (λ (r : Refusal). r .rule) (wrong-order l (λ k. omega (arith, k, order-under)))) ∙ z in absurd (omega arith)
+    go (no h) = let e : _≡_ {A = ℕ} 8 0 = sym (ap (λ (r : Refusal). r .rule) (refused-size l (λ k. omega (arith, k, order-under)))) ∙ z in absurd (omega arith)
 
 -- a refusal that is the first of several has a rule where one of them has
 earlier-zero : (r s : Refusal) → earlier r s .rule ≡ 0 → (r .rule ≡ 0) × (s .rule ≡ 0)

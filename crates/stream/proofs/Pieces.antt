@@ -5,12 +5,12 @@ use mathlib.Core.List.{List, [], _∷_, _++_, append-nil, append-assoc}
 use Prim.Native.Nat.{ℕ, suc, _+_, _-_, _≤_, _<_, min}
 use native.Mathlib.Omega.{arith}
 use borrow.Author.Tests.{ltb-true, eqb-true, leb-true, le-ltb, lt-ltb, ne-eqb, eq-eqb, le-leb, lt-leb}
-use borrow.Rule.Slice.PartMut.{putMid, post-is}
+use borrow.Rule.Slice.PartMut.{putMid}
 use lib.Dec.{ltb, leb, eqb}
 use lib.ListN.{length, take, drop, length-append, length-take, length-drop, drop-of-length-le}
-use lib.Seq.{take-at, take-append-add, drop-at, drop-length, drop-drop, length-take-le}
-use Rattle.checks.proofs.Tables.{both}
-use Rattle.parts.proofs.Parts.{part-is}
+use lib.Seq.{take-at, take-append-add, drop-at, drop-drop, length-take-le}
+use Rattle.limb.proofs.Tests.{both-true, true-false}
+use Rattle.parts.proofs.Parts.{part-is, put-is}
 use Rattle.lines.specs.Writing.{onto}
 use Rattle.desklines.specs.Answer.{Answered, longestAnswer}
 use Rattle.desklines.specs.Written.{Answers, Tells}
@@ -56,18 +56,15 @@ module _ (s : State) (out : List ℕ) where
   pub is-ready : isReady s out ≡ true → Ready
   unfolding isReady
   is-ready e =
-      let a = both (ltb (s .held .lines) 3) _ e in
-      let b = both (eqb (length (s .first)) lineRoom) _ (a .1) in
-      let c = both (eqb (length (s .second)) lineRoom) _ (b .1) in
-      let d = both (eqb (length (s .third)) lineRoom) _ (c .1) in
+      let a = both-true (ltb (s .held .lines) 3) _ e in
+      let b = both-true (eqb (length (s .first)) lineRoom) _ (a .1) in
+      let c = both-true (eqb (length (s .second)) lineRoom) _ (b .1) in
+      let d = both-true (eqb (length (s .third)) lineRoom) _ (c .1) in
       record {
         few = ltb-true (s .held .lines) 3 (a .0);
         rooms = record { first = eqb-true _ _ (b .0); second = eqb-true _ _ (c .0); third = eqb-true _ _ (d .0) };
         room = leb-true longestAnswer (length out) (d .1);
       }
-
-pub true-false : {b : Bool} → b ≡ true → b ≡ false → ⊥
-true-false p q = let z : _≡_ {A = ℕ} 0 1 = cc in omega arith
 
 taken-le : (g : Group) (bytes : List ℕ) → taken g bytes ≤ length bytes
 unfolding taken
@@ -216,11 +213,8 @@ module _ (most : ℕ) (start : State) (bytes entry : List ℕ) (s : State) (out 
     -- a group is whole, and its answer is printed behind what was printed
     module _ (many : 3 ≤ p .held .lines) (r : ℕ) (last : List ℕ)
         (a : Answers (take (p .held .first) x) (take (p .held .second) y) (take (p .held .third) z) (take (length out - told) (drop told out)) last r) (size : length last ≡ length (take (length out - told) (drop told out))) where
-      part : take (length out - told) (drop told out) ≡ drop told out
-      part = part-is out told
-
       part-size : length (take (length out - told) (drop told out)) ≡ length out - told
-      part-size = ap length part ∙ length-drop told out
+      part-size = ap length (part-is out told) ∙ length-drop told out
 
       long : longestAnswer ≤ length (take (length out - told) (drop told out))
       long = omega (arith, part-size, v .most-is)
@@ -237,13 +231,10 @@ module _ (most : ℕ) (start : State) (bytes entry : List ℕ) (s : State) (out 
       next : List ℕ
       next = putMid told (length out - told) out last
 
-      next-is : putMid told (length out - told) out last ≡ take told out ++ last
-      next-is = rw (post-is told (length out) out (v .fits), drop-length out, append-nil last) refl
-
       next-told : take (told + r) (putMid told (length out - told) out last) ≡ take told out ++ take r last
       next-told =
           let e : length (take told out) ≡ told = length-take-le told out (v .fits) in
-          ap (take (told + r)) next-is ∙ ap (λ (i : ℕ). take (i + r) (take told out ++ last)) (sym e) ∙ take-append-add (take told out) last r
+          ap (take (told + r)) (put-is out last told (v .fits)) ∙ ap (λ (i : ℕ). take (i + r) (take told out ++ last)) (sym e) ∙ take-append-add (take told out) last r
 
       rest-same : drop told out ≡ drop told entry
       unfolding onto
@@ -256,7 +247,7 @@ module _ (most : ℕ) (start : State) (bytes entry : List ℕ) (s : State) (out 
       last-is =
           a .told long
           ∙ ap (λ (i : ℕ). take r last ++ drop i (take (length out - told) (drop told out))) answer-size
-          ∙ ap (λ (l : List ℕ). take r last ++ drop r l) (part ∙ rest-same)
+          ∙ ap (λ (l : List ℕ). take r last ++ drop r l) (part-is out told ∙ rest-same)
           ∙ ap (λ (l : List ℕ). take r last ++ l) (drop-drop r told entry)
 
       next-onto : putMid told (length out - told) out last ≡ onto (take (told + r) (putMid told (length out - told) out last)) entry
@@ -264,10 +255,10 @@ module _ (most : ℕ) (start : State) (bytes entry : List ℕ) (s : State) (out 
       next-onto =
           let e : length (take told out) ≡ told = length-take-le told out (v .fits) in
           let f : length (take told out ++ take r last) ≡ told + r = simp length-append (omega (arith, e, answer-size)) in
-          rw next-told (next-is ∙ ap (λ (l : List ℕ). take told out ++ l) last-is ∙ sym (append-assoc (take told out) (take r last) (drop (told + r) entry)) ∙ ap (λ (i : ℕ). (take told out ++ take r last) ++ drop i entry) (sym f))
+          rw next-told (put-is out last told (v .fits) ∙ ap (λ (l : List ℕ). take told out ++ l) last-is ∙ sym (append-assoc (take told out) (take r last) (drop (told + r) entry)) ∙ ap (λ (i : ℕ). (take told out ++ take r last) ++ drop i entry) (sym f))
 
       next-size : length (putMid told (length out - told) out last) ≡ length entry
-      next-size = ap length next-is ∙ simp length-append (omega (arith, length-take-le told out (v .fits), size, part-size, v .same, v .fits))
+      next-size = ap length (put-is out last told (v .fits)) ∙ simp length-append (omega (arith, length-take-le told out (v .fits), size, part-size, v .same, v .fits))
 
       group-goes : (k : Held) → k ≡ heldOf noGroup → (n : ℕ) (rest : List ℕ) (t : State) → Serves (length entry - (told + r)) (record { held = k; first = x; second = y; third = z }) (drop (count + p .taken) bytes) n rest t
           → Serves (length entry) start bytes (count + p .taken + n) (take (told + r) (putMid told (length out - told) out last) ++ rest) t

@@ -1,12 +1,13 @@
 -- A sum that its first column fixes: what a look at the operands tells is what is reported. Assumes nothing.
 use mathlib.Core.Path.{_≡_, refl, sym, ap, _∙_}
 use mathlib.Core.Bool.{Bool, true, false, not, _&&_, true≢false}
-use mathlib.Core.List.{List, [], _∷_}
+use mathlib.Core.List.{List}
 use Prim.Native.Nat.{ℕ, _+_, _/_, _≤_}
 use native.Mathlib.Omega.{arith}
 use borrow.Author.Tests.{leb-true}
 use lib.Dec.{leb}
 use lib.ListN.{length, set}
+use Rattle.limb.proofs.Value.{one-written}
 use Rattle.numbers.specs.Limits.{limbsFor}
 use Rattle.numbers.specs.Operand.{Operand, WellFormed}
 use Rattle.numbers.proofs.Limits.{two-digits}
@@ -43,11 +44,6 @@ pub one-limb : (p n : ℕ) → Room p n → p ≤ 62 → n ≡ 1
 unfolding limbsFor
 one-limb p n room h = let a : n ≡ (p + 63) / 64 = room .count in omega (arith, two-digits, room .least)
 
-one-left : (l : List ℕ) (v : ℕ) → length l ≡ 1 → set l 0 v ≡ v ∷ []
-one-left [] v e = absurd (omega arith)
-one-left (x ∷ []) v e = refl
-one-left (x ∷ y ∷ l) v e = absurd (omega arith)
-
 pub looked-reported : (o : Mode) (p : ℕ) (x y : Operand) (sight : Sight) (entry : List ℕ) {s : Sum} → Room p (length entry) → p ≤ 62 → Looked o p x y sight
     → ((a : Answer) → Signed (sight .negative) a → sight .seen .placed ≡ placedOf a → s ≡ sumOf a p 1 (sight .first) (sight .second))
     → Reported plus o p x y (set entry 0 (sight .seen .limb)) s
@@ -59,7 +55,7 @@ looked-reported o p x y sight entry {s} room h l told =
       depth = rw k (l .depth);
       bounded = rw k (omega (arith, deep-enough));
       answer = e ∙ rw (l .first, l .second, k) refl;
-      target = one-left entry (sight .seen .limb) (one-limb p (length entry) room h) ∙ l .left .limbs;
+      target = one-written entry (sight .seen .limb) (one-limb p (length entry) room h) ∙ l .left .limbs;
     }
 
 -- ---- what is read at once into the target

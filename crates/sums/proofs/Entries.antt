@@ -1,9 +1,10 @@
 -- What the checks leave to a sum, and what its cases give to add and re-round. Assumes nothing.
 use mathlib.Core.Path.{_≡_, refl, sym, ap, _∙_, subst}
-use mathlib.Core.Bool.{Bool, true, true≢false}
+use mathlib.Core.Bool.{Bool, true}
 use mathlib.Core.List.{List}
 use Prim.Native.Nat.{ℕ, _^_, _≤_}
 use lib.ListN.{length, replicate}
+use Rattle.numbers.proofs.Digits.{zero-well-formed}
 use Rattle.limb.specs.Value.{Below}
 use Rattle.numbers.specs.Operand.{Operand, WellFormed, zeroLike}
 use Rattle.rounding.specs.Mode.{modeOf}
@@ -38,10 +39,6 @@ unfolding zeroLike
 zero-alike x g z =
     ap (λ (b : Bool). record { negative = x .negative; isZero = b; precision = x .precision; exponent = x .exponent; limbs = x .limbs }) z
     ∙ ap (λ (e : ℕ). record { negative = x .negative; isZero = true; precision = x .precision; exponent = e; limbs = x .limbs }) (g .zero z)
-
-zero-like-formed : (x : Operand) → WellFormed x → WellFormed (zeroLike x)
-unfolding zeroLike
-zero-like-formed x g = record { least = g .least; most = g .most; count = g .count; limb = g .limb; zero = λ z. refl; regular = λ z. absurd (true≢false z) }
 
 module _ (mode : ℕ) (x : Number) (xl : List ℕ) (y : Number) (yl : List ℕ) (p : ℕ) (entry : List ℕ) (r : Refusal) (e : r ≡ pairRefusal mode (operandOf x xl) (operandOf y yl) p (length entry)) where
   passed : r .rule ≡ 0 → pairRefusal mode (operandOf x xl) (operandOf y yl) p (length entry) ≡ accepted
@@ -98,5 +95,5 @@ module _ (mode : ℕ) (x : Number) (xl : List ℕ) (p : ℕ) (entry : List ℕ) 
   regular-rerounded h w d =
       record {
         refused = λ n. absurd (n (passed-single h));
-        reported = λ k. d (zeroLike (operandOf x xl)) (zero-like-formed (operandOf x xl) (single-ready h w .1)) refl;
+        reported = λ k. d (zeroLike (operandOf x xl)) (zero-well-formed (operandOf x xl) (single-ready h w .1)) refl;
       }

@@ -4,23 +4,6 @@ use cutting::LINE_ROOM;
 ghost use Prim.Native.Nat.{_≤_};
 ghost use lib.ListN.{length};
 
-fn wide(b: u8) -> u64 {
-    b as u64
-}
-
-fn put_bytes(text: &mut [u8; 4096], at: usize, bytes: &[u8]) -> usize
-    requires { ⌜ at ≤ 4096 ⌝ }
-    ensures { λ r. ⌜ r ≤ 4096 ⌝ }
-{
-    let mut place = at;
-    let mut i: usize = 0;
-    while i < bytes.len() {
-        place = vectors::put_byte(text, place, wide(bytes[i]));
-        i += 1;
-    }
-    place
-}
-
 // Where a piece ends: the last may be shorter.
 fn piece_end(at: usize, size: usize, end: usize) -> usize
     requires { ⌜ at ≤ end ⌝ }
@@ -45,7 +28,7 @@ fn finish(
     ensures { λ r. ⌜ r ≤ 4096 ⌝ }
 {
     let told = stream::finish(held, first, second, third, out);
-    put_bytes(text, place, &out[0..told])
+    vectors::put_bytes(text, place, &out[0..told])
 }
 
 // What is held after a piece, how many of its bytes were taken, and how long the text is.
@@ -71,7 +54,7 @@ fn serve_piece(
     let s = stream::serve(held, piece, first, second, third, out);
     let after = s.held;
     let told = s.told;
-    let end = put_bytes(text, place, &out[0..told]);
+    let end = vectors::put_bytes(text, place, &out[0..told]);
     Standing {
         held: after,
         taken: s.taken,

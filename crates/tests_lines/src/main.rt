@@ -14,29 +14,12 @@ fn put_refusal(out: &mut [u8; 4096], refusal: Refusal) -> usize
     vectors::put_byte(out, a, refusal.place as u64)
 }
 
-fn wide(b: u8) -> u64 {
-    b as u64
-}
-
-fn put_bytes(out: &mut [u8; 4096], at: usize, bytes: &[u8]) -> usize
-    requires { ⌜ at ≤ 4096 ⌝ }
-    ensures { λ r. ⌜ r ≤ 4096 ⌝ }
-{
-    let mut place = at;
-    let mut i: usize = 0;
-    while i < bytes.len() {
-        place = vectors::put_byte(out, place, wide(bytes[i]));
-        i += 1;
-    }
-    place
-}
-
 fn written(w: Written, room: &[u8], out: &mut [u8; 4096]) -> usize
     ensures { λ r. ⌜ r ≤ 4096 ⌝ }
 {
     let a = put_refusal(out, w.refusal);
     let b = vectors::put_pair(out, a, w.count as u64);
-    let c = put_bytes(out, b, room);
+    let c = vectors::put_bytes(out, b, room);
     vectors::put_end(out, c)
 }
 

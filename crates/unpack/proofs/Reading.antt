@@ -13,6 +13,7 @@ use lib.Ieee.{Float, nan, inf, fin, binary64, toBits, isNan, ne, size}
 use lib.Ieee.Compare.{differs-from-itself, nan-differs}
 use lib.Ieee.Digits.{size-lt}
 use borrow.Author.Tests.{lt-ltb, eq-eqb, ne-eqb}
+use Rattle.limb.proofs.Value.{one-written}
 use Rattle.numbers.specs.Limits.{bias, limbsFor}
 use Rattle.checks.specs.declared.Refusal.{Refusal}
 use Rattle.checks.specs.declared.Kind.the-variants.{Regular, Zero}
@@ -53,12 +54,6 @@ scale-lt b = go (eqb (exponentField b) 0) (field-lt b)
     go : (t : Bool) → exponentField b < 2048 → cond t 1 (exponentField b) < 2048
     go true h = omega arith
     go false h = h
-
--- one limb, written over
-pub one-written : (t : List ℕ) (v : ℕ) → length t ≡ 1 → set t 0 v ≡ v ∷ []
-one-written [] v h = absurd (omega arith)
-one-written (x ∷ []) v h = refl
-one-written (x ∷ y ∷ t) v h = absurd (omega arith)
 
 pub zero-number : (b : ℕ) (r : FromDouble) → doubleDigits b ≡ 0 → r ≡ readAs (doubleSign b) Zero (pos 0) → r ≡ bitsNumber b
 unfolding bitsNumber readAs numberOfBits doublePrecision

@@ -17,6 +17,7 @@ pub use reading::place_after;
 pub use reading::quad_at;
 pub use reading::word_at;
 pub use writing::put_byte;
+pub use writing::put_bytes;
 pub use writing::put_end;
 pub use writing::put_limbs;
 pub use writing::put_number;

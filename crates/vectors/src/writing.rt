@@ -105,6 +105,23 @@ pub fn put_limbs(out: &mut [u8; 4096], at: usize, limbs: &[u64]) -> usize
     place
 }
 
+fn wide(b: u8) -> u64 {
+    b as u64
+}
+
+// Bytes, the first one first, without their count.
+pub fn put_bytes(out: &mut [u8; 4096], at: usize, bytes: &[u8]) -> usize
+    ensures { λ r. ⌜ r ≤ 4096 ⌝ }
+{
+    let mut place = put_at(at);
+    let mut i: usize = 0;
+    while i < bytes.len() {
+        place = put_byte(out, place, wide(bytes[i]));
+        i += 1;
+    }
+    place
+}
+
 fn put_at(at: usize) -> usize
     ensures { λ r. ⌜ r ≡ min at 4096 ⌝ }
 {

@@ -3,15 +3,14 @@ use mathlib.Core.Path.{_≡_, refl, sym, ap, _∙_}
 use mathlib.Core.Bool.{Bool, true, false}
 use mathlib.Core.List.{List}
 use Prim.Native.Nat.{ℕ, zero, suc, _+_, _-_, _*_, _^_, _≤_, _<_}
-use native.Mathlib.Nat.{pow-succ', one-le-pow, eq-of-mul-eq-mul-left, add-sub-of-le}
+use native.Mathlib.Nat.{pow-succ', one-le-pow, eq-of-mul-eq-mul-left}
 use native.Mathlib.Numerals.{add-one}
 use native.Mathlib.Omega.{arith}
 use lib.ListN.{length, take, drop, getD, set, length-drop}
-use lib.Pow.{pow-add}
-use lib.Seq.{getD-drop}
+use Rattle.limb.proofs.Powers.{pow-split}
 use Rattle.limb.specs.Value.{valueIn, Below}
 use Rattle.limb.specs.Carry.{bit}
-use Rattle.limb.proofs.Value.{value-set, value-split, value-lt}
+use Rattle.limb.proofs.Value.{value-set, value-split, value-lt, below-part, value-kept}
 use Rattle.walk.specs.declared.change.Change.the-variants.{Stay, Rise, Fall}
 use Rattle.walk.specs.Change.{Risen, Fallen, partOf, ChangedAt, PassesLimb}
 
@@ -73,28 +72,22 @@ module _ (from : ℕ) (before after : List ℕ) (fits : from ≤ length before) 
   weight-pos : 0 < B ^ from
   weight-pos = one-le-pow from B (omega arith)
 
-  split-after : take from after ≡ take from before → valueIn B after ≡ valueIn B (take from before) + B ^ from * valueIn B (drop from after)
-  split-after e = value-split B from after ∙ ap (λ (l : List ℕ). valueIn B l + B ^ from * valueIn B (drop from after)) e
-
-  top-split : B ^ length before ≡ B ^ from * B ^ (length before - from)
-  top-split = ap (λ (m : ℕ). B ^ m) (sym (add-sub-of-le fits)) ∙ pow-add B from (length before - from)
-
   part-lt : Below B after → valueIn B (drop from after) < B ^ (length before - from)
   part-lt h =
       let e : length (drop from after) ≡ length before - from = length-drop from after ∙ ap (λ (m : ℕ). m - from) same in
-      rw e at (value-lt B (drop from after) (λ i. rw (getD-drop from after i 0) (h (from + i))))
+      rw e at (value-lt B (drop from after) (below-part B from after h))
 
   risen-part : (out : Bool) → Risen from before after out
       → valueIn B (drop from after) + B ^ (length before - from) * bit out ≡ suc (valueIn B (drop from before))
   risen-part out r =
       part-risen (B ^ from) (B ^ (length before - from)) (valueIn B (take from before)) (valueIn B (drop from after)) (valueIn B (drop from before))
-      (valueIn B after) (valueIn B before) (B ^ length before) (bit out) weight-pos (split-after (r .below)) (value-split B from before) top-split (r .value)
+      (valueIn B after) (valueIn B before) (B ^ length before) (bit out) weight-pos (value-kept B from before after (r .below)) (value-split B from before) (pow-split B from (length before) fits) (r .value)
 
   fallen-part : (out : Bool) → Fallen from before after out
       → suc (valueIn B (drop from after)) ≡ valueIn B (drop from before) + B ^ (length before - from) * bit out
   fallen-part out r =
       part-fallen (B ^ from) (B ^ (length before - from)) (valueIn B (take from before)) (valueIn B (drop from after)) (valueIn B (drop from before))
-      (valueIn B after) (valueIn B before) (B ^ length before) (bit out) weight-pos (split-after (r .below)) (value-split B from before) top-split (r .value)
+      (valueIn B after) (valueIn B before) (B ^ length before) (bit out) weight-pos (value-kept B from before after (r .below)) (value-split B from before) (pow-split B from (length before) fits) (r .value)
 
   -- a carry that comes out is the carry above, which was 0; else that stays as it was
   pub risen-out : (carry : Bool) → Risen from before after true → ChangedAt Rise from carry before after true

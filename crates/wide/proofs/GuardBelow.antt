@@ -3,16 +3,18 @@ use mathlib.Core.Path.{_≡_, refl, sym, ap, _∙_, subst}
 use mathlib.Core.Bool.{Bool, true, false, not, cond, _&&_, _||_, true≢false}
 use mathlib.Core.List.{List}
 use Prim.Native.Nat.{ℕ, zero, suc, _+_, _-_, _*_, _%_, _^_, _≤_, _<_}
-use native.Mathlib.Nat.{add-mul-mod-self-left, mul-le-mul-right}
+use native.Mathlib.Nat.{mul-le-mul-right}
 use native.Mathlib.Numerals.{add-one}
 use native.Mathlib.Omega.{arith}
 use borrow.Author.Tests.{ltb-true, lt-leb}
 use lib.Dec.{ltb, leb}
 use lib.Count.{leadingZeros, leading-top}
 use lib.ListN.{length, getD, take}
-use lib.Pow.{pow-add, pow-pos}
+use lib.Pow.{pow-pos}
 use lib.Ieee.{size}
 use lib.Ieee.Digits.{size-le}
+use Rattle.remnant.proofs.Resting.{word-low}
+use Rattle.limb.proofs.Carry.{bit-le}
 use Rattle.limb.specs.Value.{valueOf, valueIn, Below}
 use Rattle.limb.specs.Carry.{bit}
 use Rattle.limb.proofs.Value.{value-lt, value-take-lt, base-pow}
@@ -22,12 +24,11 @@ use Rattle.rounding.specs.Mode.{Mode, Way, way}
 use Rattle.rounding.specs.Answer.{rounded}
 use Rattle.depth.specs.Bound.{deepest}
 use Rattle.decide.specs.Decide.{decideAt}
-use Rattle.decide.proofs.Settled.{size-part}
 use Rattle.place.specs.Placed.{runNumber}
 use Rattle.kept.proofs.Reaching.{top-apart}
 use Rattle.columns.specs.Column.{readTo, columnOf}
 use Rattle.columns.proofs.Reading.{read-more, read-lt}
-use Rattle.remnant.proofs.Sizes.{size-is}
+use Rattle.limb.proofs.Sizes.{size-is, size-part}
 use Rattle.leap.specs.Leap.{Within}
 use Rattle.leap.specs.Runs.{Runs}
 use Rattle.leap.specs.declared.guarded.Guarded.{Guarded}
@@ -120,16 +121,7 @@ module _ (p : ℕ) (pair : Pair) (first second target : List ℕ) (guard : ℕ) 
   run-size = size-part N 64 guard value-some fits ∙ omega (arith, value-size, g .spent .full, some)
 
   run-low : (e : ℕ) → e ≤ 64 → R % 2 ^ e ≡ guard % 2 ^ e
-  run-low e h = ap (λ (m : ℕ). m % 2 ^ e) apart ∙ add-mul-mod-self-left guard (2 ^ e) (2 ^ (64 - e) * N)
-    where
-      base : 2 ^ 64 ≡ 2 ^ e * 2 ^ (64 - e)
-      base = ap (λ (m : ℕ). 2 ^ m) (let z : 64 ≡ e + (64 - e) = omega arith in z) ∙ pow-add 2 e (64 - e)
-
-      apart : R ≡ guard + 2 ^ e * (2 ^ (64 - e) * N)
-      apart = spread N guard (2 ^ e) (2 ^ (64 - e)) (2 ^ 64) base
-        where
-          spread : (v g e f b : ℕ) → b ≡ e * f → v * b + g ≡ g + e * (f * v)
-          spread v g e f b i = rw i (omega arith)
+  run-low e h = word-low N guard e h
 
   run-inside : (1 ≤ guard % 2 ^ (size top - 1)) × (guard % 2 ^ (size top - 1) + 1 < 2 ^ (size top - 1)) → Inside p R
   run-inside t =
@@ -246,13 +238,9 @@ module _ (p : ℕ) (pair : Pair) (first second target : List ℕ) (guard : ℕ) 
         inside : Inside p D
         inside = subst (Inside p) (sym value) (run-inside t)
 
-        one : (b : Bool) → bit b ≤ 1
-        one true = omega arith
-        one false = omega arith
-
         go : (row : Row) → inner? row ≡ true → settledBy w p D row ≡ true
         go Exact i = refl
-        go (Plus least next most) i = inside-plus p D inside w least (bit next) (one next) most
+        go (Plus least next most) i = inside-plus p D inside w least (bit next) (bit-le next) most
         go (Minus most) i = inside-minus p D inside some-p w most
         go Hole i = absurd (true≢false (sym i))
 

@@ -9,6 +9,7 @@ use borrow.Author.Tests.{leb-true}
 use lib.Dec.{leb}
 use lib.ListN.{length, getD, take}
 use lib.Pow.{pow-add, pow-pos}
+use Rattle.limb.proofs.Tests.{both-true}
 use Rattle.limb.specs.Value.{valueOf, valueIn, Below}
 use Rattle.limb.specs.Carry.{bit}
 use Rattle.limb.proofs.Value.{value-lt, value-take-lt, base-pow}
@@ -19,7 +20,6 @@ use Rattle.rounding.specs.Answer.{rounded}
 use Rattle.rounding.specs.Sum.{add}
 use Rattle.depth.specs.Bound.{deepest}
 use Rattle.decide.specs.Decide.{decideAt}
-use Rattle.decide.proofs.Settled.{and-true}
 use Rattle.place.specs.Placed.{runNumber}
 use Rattle.kept.proofs.Reaching.{top-apart}
 use Rattle.columns.specs.Column.{readTo}
@@ -138,7 +138,7 @@ module _ (p : ℕ) (pair : Pair) (first second before after : List ℕ) (room : 
   reads = read-held x y pair first second h n ∙ rw none (go (pair .same))
     where
       none : readTo n (pair .gap) second ≡ 0
-      none = read-early (pair .gap) second (subst (Below (2 ^ 64)) (sym (h .second-is)) (d .second .limb)) n (leb-true (64 * n) (pair .gap) (and-true (leb (64 * n) (pair .gap)) (leb (pair .first) (64 * n)) apart .0))
+      none = read-early (pair .gap) second (subst (Below (2 ^ 64)) (sym (h .second-is)) (d .second .limb)) n (leb-true (64 * n) (pair .gap) (both-true (leb (64 * n) (pair .gap)) (leb (pair .first) (64 * n)) apart .0))
 
       go : (b : Bool) → cond b (D + 0) (D - 0) ≡ D
       go true = omega arith

@@ -8,6 +8,9 @@ use native.Mathlib.Omega.{arith}
 use borrow.Author.Tests.{lt-ltb, le-ltb, le-leb, eq-eqb, eqb-true, ltb-true}
 use lib.Dec.{ltb, eqb}
 use lib.ListN.{length, getD}
+use Rattle.descent.proofs.JudgingRange.{digits-some}
+use Rattle.depth.proofs.Exchange.{top-exchange, deciding-exchange}
+use Rattle.limb.proofs.Tests.{both-true}
 use Rattle.numbers.specs.Limits.{counted, leastPrecision, mostPrecision, mostExponent, limbsFor}
 use Rattle.numbers.specs.Operand.{Operand, WellFormed}
 use Rattle.rounding.specs.Mode.{Mode, modeOf}
@@ -24,19 +27,16 @@ use Rattle.place.specs.Placed.{runNumber, runAnswer, runRule, placedOf, limbsAf
 use Rattle.place.specs.Rounded.{roundedPlaced, roundedLimbs}
 use Rattle.place.proofs.Answer.{placed-passed, limbs-passed}
 use Rattle.place.proofs.Rules.{rule-none}
-use Rattle.decide.proofs.Settled.{and-true}
 use Rattle.columns.specs.Column.{readTo}
 use Rattle.settle.specs.declared.rows.Pair.{Pair}
 use Rattle.bridge.specs.Verdict.{pairOf, Ordered}
 use Rattle.bridge.proofs.Told.{pair-gap, pair-same, pair-top, top-is}
 use Rattle.bridge.proofs.Decision.{leads}
 use Rattle.bridge.proofs.Covered.{columns-above}
-use Rattle.bridge.proofs.Exchange.{top-exchange, deciding-exchange}
 use Rattle.descent.specs.Ready.{Room}
 use Rattle.descent.specs.Course.{Course}
 use Rattle.ending.specs.Finishing.{Left}
 use Rattle.reports.specs.Signed.{Signed}
-use Rattle.ending.proofs.Finishing.{room-pos}
 use Rattle.ending.proofs.RegularEnd.{deep-enough, not-deep, rounded-signed}
 use Rattle.ending.proofs.Handed.{ordered-pair, beq-turned, top-first, course-first}
 use Rattle.wide.specs.declared.filling.Filled.{Filled}
@@ -86,7 +86,7 @@ module _ (a b u v : ℕ) where
       level : b ≤ a → (a ≤ b) × (a ≡ b → u < v)
       level h =
           let f : (eqb a b && ltb u v) ≡ true = rw (le-ltb a b h) at e in
-          let t = and-true (eqb a b) (ltb u v) f in
+          let t = both-true (eqb a b) (ltb u v) f in
           let i = eqb-true a b (t .0) in
           (omega arith, λ j. ltb-true u v (t .1))
 
@@ -165,7 +165,7 @@ attempted-turned o p P x y r e exit n placed k i j t =
 
 pub attempted-told : (o : Mode) (p m : ℕ) → Room p m → (x y : Operand) → x .isZero ≡ false → y .isZero ≡ false → (s : Bool) (exit : List ℕ) (n : Bool) (placed : Placed) (k i j : ℕ)
     → Attempted o p (cond s y x) (cond s x y) exit n placed k (cond s j i) (cond s i j) → Attempted o p x y exit n placed k i j
-attempted-told o p m room x y r e true exit n placed k i j t = attempted-turned o p (room-pos p m room) x y r e exit n placed k j i t
+attempted-told o p m room x y r e true exit n placed k i j t = attempted-turned o p (digits-some p m room) x y r e exit n placed k j i t
 attempted-told o p m room x y r e false exit n placed k i j t = t
 
 -- ---- what fills the target is rounded
@@ -218,7 +218,7 @@ module _ (mode p : ℕ) (pair : Pair) (first second t : List ℕ) (f : Filled) (
     pub in-order-told : {exit : List ℕ} {placed : Placed} {i j : ℕ} → placed ≡ roundedPlaced mode p negative unit (f .carry) t (f .guard) (f .more) → exit ≡ roundedLimbs mode p negative unit (f .carry) t (f .guard) (f .more)
         → (i ≡ usedOf (f .depth) 0 (length first)) × (j ≡ usedOf (f .depth) (pair .gap) (length second)) → Attempted o p z w exit negative placed (f .depth) i j
     in-order-told {exit} {placed} {i} {j} a b c =
-        let P = room-pos p (length t) room in
+        let P = digits-some p (length t) room in
         let top : topExponent z w ≡ z .exponent = top-is o p P z w 1 d (omega arith) in
         record {
           decides = record { zeros = λ e. absurd (true≢false (sym e ∙ rw (d .regular) refl)); deciding = λ e. depth-decided o p P z w (d .first) (d .second) (f .depth) (rounds .some) (rounds .fixed) (rounds .first) };

@@ -17,10 +17,10 @@ use Rattle.decide.specs.Decide.{decideAt}
 use Rattle.settle.specs.Rows.{rowOf, seenRow}
 use Rattle.settle.specs.declared.rows.Pair.{Pair}
 use Rattle.settle.specs.declared.rows.Row.the-variants.{Plus, Minus}
-use Rattle.bridge.specs.Verdict.{pairOf, Ordered, Leads, readSum, settledBy, refusedBy, inner?}
+use Rattle.bridge.specs.Verdict.{pairOf, Ordered, Leads, readSum, settledBy, refusedBy}
 use Rattle.bridge.proofs.Told.{pair-second}
 use Rattle.bridge.proofs.Answers.{tests-are}
-use Rattle.descent.proofs.AtOnce.{unrefused}
+use Rattle.descent.proofs.AtOnce.{unrefused, seen-row}
 
 -- ---- the class test
 
@@ -64,16 +64,6 @@ seen-open w p D short s c = go (s .same) (ltb c (s .first) && ltb c (s .gap + s 
     go false both true first single = next-open p (D - 1) (omega (arith, size-mono (D - 1) D (omega arith))) w true first
     go false both false first single = more-open p D short w
 
-seen-inner : (s : Pair) (c : ℕ) → inner? (seenRow s c) ≡ true
-unfolding inner?
-seen-inner s c = go (s .same) (ltb c (s .first) && ltb c (s .gap + s .second)) (ltb c (s .gap + s .second)) (ltb c (s .first)) (not (eqb (s .first) (c + 1) && eqb (s .gap + s .second) (c + 1)))
-  where
-    go : (same both second first single : Bool) → inner? (cond same (cond both (Plus false true single) (Plus false false true)) (cond second (Minus first) (Plus false false true))) ≡ true
-    go true true second first single = refl
-    go true false second first single = refl
-    go false both true first single = refl
-    go false both false first single = refl
-
 -- ---- the decision
 
 module _ (o : Mode) (p : ℕ) (P : 0 < p) (x y : Operand) (k : ℕ) (d : Ordered x y) (K : 1 ≤ k) (lead : Leads x y k) (regular : y .isZero ≡ false) (above : 64 * k ≤ pairOf x y .top)
@@ -88,5 +78,5 @@ module _ (o : Mode) (p : ℕ) (P : 0 < p) (x y : Operand) (k : ℕ) (d : Ordered
 
   pub short-open : size (readSum x y k) ≤ p → decideAt o p x y k ≡ false
   short-open short =
-      tests-are o p P x y k d K lead (seenRow s (64 * k)) row-is (seen-inner s (64 * k))
+      tests-are o p P x y k d K lead (seenRow s (64 * k)) row-is (seen-row s (64 * k))
       ∙ ap (λ (b : Bool). b || refusedBy (way o (x .negative)) p s k (readSum x y k)) (seen-open (way o (x .negative)) p (readSum x y k) short s (64 * k)) ∙ unrefused o p P x y k d K lead above high low

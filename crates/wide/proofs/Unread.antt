@@ -5,7 +5,7 @@ use Prim.Native.Nat.{ℕ, _+_, _*_, _<_}
 use native.Mathlib.Omega.{arith}
 use borrow.Author.Tests.{ne-eqb, leb-true, lt-leb}
 use lib.Dec.{ltb, leb, eqb}
-use Rattle.decide.proofs.Settled.{and-true}
+use Rattle.limb.proofs.Tests.{both-true}
 use Rattle.settle.specs.Rows.{rowOf, farRow, seenRow}
 use Rattle.settle.specs.declared.rows.Pair.{Pair}
 use Rattle.settle.specs.declared.rows.Row.the-variants.{Exact, Plus, Minus, Hole}
@@ -25,7 +25,7 @@ module _ (s : Pair) (k : ℕ) (some : 0 < s .second) where
   pub row-hole : (leb c (s .gap) && leb (s .first) c) ≡ true → rowOf s k ≡ Hole
   unfolding rowOf
   row-hole e =
-      let t = and-true (leb c (s .gap)) (leb (s .first) c) e in
+      let t = both-true (leb c (s .gap)) (leb (s .first) c) e in
       rw (two, t .0, t .1, lt-leb (s .gap + s .second) c (omega (arith, leb-true c (s .gap) (t .0)))) refl
 
   abbrev Below : Bool → Type 0

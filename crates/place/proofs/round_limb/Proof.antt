@@ -8,9 +8,10 @@ use native.Mathlib.Omega.{arith}
 use lib.Dec.{eqb}
 use mir.Facts.{toZ-ofZ}
 use mir.Syntax.{w8}
+use Rattle.limb.proofs.Value.{one-below}
 use Rattle.limb.proofs.Carry.{byte-le}
 use Rattle.place.proofs.Answer.{placed}
-use Rattle.kept.proofs.OneLimb.{one-value, one-below, one-reaches, one-kept, one-clean}
+use Rattle.kept.proofs.OneLimb.{one-value, one-reaches, one-kept, one-clean}
 use Rattle.place.proofs.Rules.{Passed, passed}
 use borrow.Author.Needs.{needs}
 use Rattle.place.proofs.round_limb.Statement.{statement}

@@ -1,23 +1,18 @@
 -- `shifts::low_is_zero` is right since the low k bits are the limbs below limb k / 64 and the low k % 64 bits of that limb. Assumes nothing.
-use mathlib.Core.Path.{_≡_, sym, _∙_}
-use Prim.Native.Nat.{ℕ, _-_, _*_, _/_, _%_, _^_, _≤_, _<_}
-use native.Mathlib.Nat.{one-mul}
+use mathlib.Core.Path.{_≡_, sym}
+use Prim.Native.Nat.{_-_, _/_, _%_, _^_, _≤_}
 use native.Mathlib.Numerals.{add-one}
 use native.Mathlib.Omega.{arith}
 use lib.ListN.{take}
-use lib.Dec.{lit<}
-use lib.Pow.{pow-pos, shl-exact}
+use lib.Pow.{pow-pos}
 use borrow.Author.Tests.{eq-eqb, ne-eqb}
+use Rattle.limb.proofs.Powers.{one-moved}
 use Rattle.limb.specs.Value.{valueIn}
 use Rattle.limb.proofs.Value.{value-nil, value-take}
 use Rattle.shifts.proofs.LowBits.{not-zero, all-zero, rest-decides}
 use borrow.Author.Needs.{needs}
 use Rattle.shifts.proofs.low_is_zero.Statement.{statement}
 use Rattle.shifts.proofs.low_is_zero.Tie as tie
-
--- 1 moved up by less than 64 loses no bit
-cut-is : (k : ℕ) → k < 64 → 1 * 2 ^ k % 2 ^ 64 ≡ 2 ^ k
-cut-is k h = shl-exact 1 k 64 (lit< tt) (omega arith) ∙ one-mul _
 
 abbrev Inv-loop : tie.InvT-loop
 Inv-loop s k limbs i₀ i = (i ≤ limbs) × (valueIn (2 ^ 64) (take i s) ≡ 0)
@@ -66,14 +61,14 @@ limb-at-requires : tie.Need-limb-at-requires Inv-loop μ-loop
 limb-at-requires c κs = search needs
 
 rem-result : tie.Need-rem-result Inv-loop μ-loop
-rem-result c = rw (cut-is (c .before .before .before .before .args .k % 64) (omega arith)) (pow-pos _)
+rem-result c = rw (one-moved (c .before .before .before .before .args .k % 64) (omega arith)) (pow-pos _)
 
 returns-3 : tie.Need-returns-3 Inv-loop μ-loop
 returns-3 c =
     let b = c .before .before in
     let g = b .before .before .args in
     let e : b .loop .i ≡ g .k / 64 = omega arith in
-    rw (c .limb-at .ensures, cut-is (g .k % 64) (omega arith))
+    rw (c .limb-at .ensures, one-moved (g .k % 64) (omega arith))
     (rest-decides (g .s .now) (g .k) (λ i. b .before .shared-slice-known .given i .fits) (rw e at (b .loop .inv .1)))
 
 pub low-is-zero-spec : {M : Type 1} → statement M

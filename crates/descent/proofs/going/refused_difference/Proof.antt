@@ -2,7 +2,8 @@
 use borrow.Author.Needs.{needs}
 use native.Mathlib.Omega.{arith}
 use mathlib.Core.Path.{sym, _∙_}
-use Rattle.descent.proofs.JudgingRange.{limbs-few, not-false, difference-far, difference-high, difference-refused, difference-open}
+use borrow.Author.Tests.{not-true}
+use Rattle.descent.proofs.JudgingRange.{limbs-few, difference-far, difference-high, difference-refused, difference-open}
 use Rattle.descent.proofs.going.refused_difference.Statement.{statement}
 use Rattle.descent.proofs.going.refused_difference.Tie as tie
 
@@ -16,7 +17,7 @@ is-low-requires : tie.Need-is-low-requires
 is-low-requires c κs = search needs
 
 returns-2 : tie.Need-returns-2
-returns-2 c = λ D s e r unlike. difference-high _ _ _ _ _ _ (c .before .before .before .before .before .pre .1) D e unlike (omega (arith, c .before .before .if1 .left)) (sym (c .before .is-low .ensures) ∙ not-false _ (c .if2 .taken))
+returns-2 c = λ D s e r unlike. difference-high _ _ _ _ _ _ (c .before .before .before .before .before .pre .1) D e unlike (omega (arith, c .before .before .if1 .left)) (sym (c .before .is-low .ensures) ∙ not-true _ (c .if2 .taken))
 
 digits-in-requires : tie.Need-digits-in-requires
 digits-in-requires c κs = (limbs-few _ _ (c .before .before .before .before .before .pre .0), c .before .before .before .before .before .pre .1)

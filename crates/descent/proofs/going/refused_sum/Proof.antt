@@ -1,6 +1,7 @@
 -- `descent::going::refused_sum` is right since only a sum near the largest exponent can be too large, and then the test of its least end says so. Assumes nothing.
 use borrow.Author.Needs.{needs}
-use Rattle.descent.proofs.JudgingRange.{limbs-few, not-false, sum-low, sum-refused, sum-open}
+use borrow.Author.Tests.{not-true}
+use Rattle.descent.proofs.JudgingRange.{limbs-few, sum-low, sum-refused, sum-open}
 use mathlib.Core.Path.{sym, _∙_}
 use Rattle.descent.proofs.going.refused_sum.Statement.{statement}
 use Rattle.descent.proofs.going.refused_sum.Tie as tie
@@ -9,7 +10,7 @@ is-high-requires : tie.Need-is-high-requires
 is-high-requires c κs = search needs
 
 returns : tie.Need-returns
-returns c = λ D s e r same. sum-low _ _ _ _ _ _ (c .before .before .before .pre .1) D e same (sym (c .before .is-high .ensures) ∙ not-false _ (c .if1 .taken))
+returns c = λ D s e r same. sum-low _ _ _ _ _ _ (c .before .before .before .pre .1) D e same (sym (c .before .is-high .ensures) ∙ not-true _ (c .if1 .taken))
 
 digits-in-requires : tie.Need-digits-in-requires
 digits-in-requires c κs = (limbs-few _ _ (c .before .before .before .pre .0), c .before .before .before .pre .1)

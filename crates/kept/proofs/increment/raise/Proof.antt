@@ -2,7 +2,8 @@
 use mathlib.Core.List.{[], _∷_}
 use native.Mathlib.Omega.{arith}
 use borrow.Author.Tests.{not-true, not-false}
-use Rattle.kept.proofs.OneLimb.{one-below, one-added}
+use Rattle.limb.proofs.Value.{one-below}
+use Rattle.kept.proofs.OneLimb.{one-added}
 use Rattle.kept.proofs.Unit.{stays, fits, overflows}
 use borrow.Author.Needs.{needs}
 use Rattle.kept.proofs.increment.raise.Statement.{statement}

@@ -1,7 +1,7 @@
 -- `remnant::ones::limb_ones` is right since so many ones are a power of 2 less one. Assumes nothing.
 use native.Mathlib.Omega.{arith}
 use lib.Pow.{pow-pos}
-use Rattle.remnant.proofs.Resting.{one-moved}
+use Rattle.limb.proofs.Powers.{one-moved}
 use Rattle.remnant.proofs.Leading.{limb-full, limb-part}
 use borrow.Author.Needs.{needs}
 use Rattle.remnant.proofs.ones.limb_ones.Statement.{statement}

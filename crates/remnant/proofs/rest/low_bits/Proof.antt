@@ -3,8 +3,8 @@ use mathlib.Core.Path.{refl, sym}
 use native.Mathlib.Nat.{mod-eq-of-lt}
 use native.Mathlib.Omega.{arith}
 use lib.Pow.{pow-pos}
-use Rattle.remnant.proofs.Resting.{one-moved}
 use borrow.Author.Needs.{needs}
+use Rattle.limb.proofs.Powers.{one-moved}
 use Rattle.remnant.proofs.rest.low_bits.Statement.{statement}
 use Rattle.remnant.proofs.rest.low_bits.Tie as tie
 

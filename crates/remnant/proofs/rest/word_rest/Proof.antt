@@ -3,7 +3,8 @@ use mathlib.Core.Path.{refl}
 use Prim.Native.Nat.{_-_, _^_}
 use native.Mathlib.Omega.{arith}
 use lib.Pow.{pow-pos}
-use Rattle.remnant.proofs.Resting.{one-moved, word-low, word-marks, twice-half, half-fits}
+use Rattle.limb.proofs.Powers.{one-moved}
+use Rattle.remnant.proofs.Resting.{word-low, word-marks, twice-half, half-fits}
 use borrow.Author.Needs.{needs}
 use Rattle.remnant.proofs.rest.word_rest.Statement.{statement}
 use Rattle.remnant.proofs.rest.word_rest.Tie as tie

@@ -1,15 +1,18 @@
--- `tests_lines::put_bytes`: the place never passes the end. Assumes nothing.
+-- `vectors::put_bytes`: the place never passes 4,096. Assumes nothing.
 use Prim.Native.Nat.{_≤_, _-_}
 use lib.ListN.{length}
 use borrow.Author.Needs.{needs}
-use Rattle.tests_lines.proofs.put_bytes.Statement.{statement}
-use Rattle.tests_lines.proofs.put_bytes.Tie as tie
+use Rattle.vectors.proofs.writing.put_bytes.Statement.{statement}
+use Rattle.vectors.proofs.writing.put_bytes.Tie as tie
 
 abbrev Inv-loop : tie.InvT-loop
 Inv-loop out₀ at bytes place₀ i₀ out place i = place ≤ 4096
 
 abbrev μ-loop : tie.MeasureT-loop
 μ-loop out₀ at bytes place₀ i₀ out place i = length bytes - i
+
+put-at-requires : tie.Need-put-at-requires Inv-loop μ-loop
+put-at-requires c κs = search needs
 
 loop-holds : tie.Need-loop-holds Inv-loop μ-loop
 loop-holds c = search needs
@@ -41,6 +44,7 @@ put-bytes-spec =
     (tie.spec
     Inv-loop
     μ-loop
+    put-at-requires
     loop-holds
     shared-slice-read-wide
     wide-requires

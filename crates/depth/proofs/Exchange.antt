@@ -6,10 +6,14 @@ use native.Mathlib.Omega.{arith}
 use Rattle.numbers.specs.Operand.{Operand}
 use Rattle.rounding.specs.Mode.{Mode}
 use Rattle.rounding.proofs.Zeros.{add-commutes}
 use Rattle.depth.specs.Columns.{topExponent, Like}
 use Rattle.depth.specs.Depth.{plus, result, Fixed, Open, Deciding}
 
--- where one of them at least is regular
+-- ---- one of them at least is regular
+
+pub first-some : (x y : Operand) → x .isZero ≡ false → (x .isZero && y .isZero) ≡ false
+first-some x y r = rw r
+
 pub top-exchange : (x y : Operand) → (x .isZero && y .isZero) ≡ false → topExponent x y ≡ topExponent y x
 unfolding topExponent
 top-exchange x y some = go (x .isZero) (y .isZero) refl refl
@@ -35,7 +39,7 @@ module _ (o : Mode) (p : ℕ) (P : 0 < p) where
     back : (v z : Operand) → Like (topExponent y x) k v z → Like (topExponent x y) k v z
     back v z l = subst (λ (t : ℕ). Like t k v z) (sym (top-exchange x y some)) l
 
-    fixed-exchange : Fixed plus o p y x k → Fixed plus o p x y k
+    pub fixed-exchange : Fixed plus o p y x k → Fixed plus o p x y k
     unfolding Fixed
     fixed-exchange f z w l m = result-exchange z w ∙ f w z (from y w m) (from x z l) ∙ result-exchange y x
 
