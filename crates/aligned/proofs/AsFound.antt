@@ -20,7 +20,8 @@ use Rattle.descent.specs.Ready.{Room}
 use Rattle.descent.proofs.AtOnce.{some-of}
 use Rattle.wide.specs.Attempted.{Attempted}
 use Rattle.wide.proofs.InOrder.{attempted-told}
-use Rattle.aligned.specs.Aligned.{Aligned, Alike, Parted, Reducible, Subtracted, Standing}
+use Rattle.aligned.specs.Aligned.{Aligned, Alike, Reducible, Subtracted, Standing}
+use Rattle.aligned.proofs.Parting.{Parted}
 use Rattle.aligned.proofs.Stands.{standing-sum, standing-difference, parted, sign-told, reducible}
 
 -- ---- in either order

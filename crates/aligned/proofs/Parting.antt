@@ -17,7 +17,7 @@ use Rattle.descent.specs.Course.{Course}
 use Rattle.descent.proofs.GoingOn.{secondRead, sum-is, difference-is}
 use Rattle.ending.proofs.Handed.{course-first}
 use Rattle.ending.proofs.RegularEnd.{deep-enough}
-use Rattle.aligned.specs.Aligned.{Aligned, Parted}
+use Rattle.aligned.specs.Aligned.{Aligned}
 use Rattle.aligned.proofs.AllRead.{no-gap}
 
 -- ---- the loop
@@ -86,6 +86,14 @@ module _ (x y : Operand) (n : ℕ) (a : Aligned x y n) where
   course-sum e = course-first x y ordered (λ f. absurd (true≢false (sym e ∙ f)))
 
 -- ---- their difference
+
+-- two such operands whose signs are unlike: z limbs at the top are alike, and the next one of the first is larger
+pub record Parted (x y : Operand) (n z : ℕ) : Type 0 where
+  pub aligned : Aligned x y n
+  pub unlike : Bool·beq (x .negative) (y .negative) ≡ false
+  pub within : z < n
+  pub level : valueOf (drop (n - z) (y .limbs)) ≡ valueOf (drop (n - z) (x .limbs))
+  pub larger : getD (y .limbs) (n - 1 - z) 0 < getD (x .limbs) (n - 1 - z) 0
 
 -- alike above limb i, the first has the larger limb there
 module _ (B i : ℕ) (a b : List ℕ) (below : Below B b) (larger : getD b i 0 < getD a i 0) where

@@ -23,8 +23,8 @@ use Rattle.rounding.proofs.Order.{le-or-lt}
 use Rattle.descent.specs.Ready.{Room}
 use Rattle.ending.proofs.Finishing.{room-some, cleared}
 use Rattle.ending.proofs.Handed.{beq-turned}
-use Rattle.aligned.specs.Aligned.{Aligned, Alike, Parted, Reducible, Subtracted, Standing}
-use Rattle.aligned.proofs.Parting.{same-told, sum-all, course-sum, apart, lower-less, course-parted, difference-below}
+use Rattle.aligned.specs.Aligned.{Aligned, Alike, Reducible, Subtracted, Standing}
+use Rattle.aligned.proofs.Parting.{Parted, same-told, sum-all, course-sum, apart, lower-less, course-parted, difference-below}
 
 -- ---- a sum
 

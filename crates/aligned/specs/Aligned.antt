@@ -1,7 +1,7 @@
 -- Two numbers of one exponent that have as many limbs as the target. Definitions only.
 use Prim.Native.Nat.{ℕ, _+_, _-_, _*_, _^_, _≤_, _<_}
 use mathlib.Core.Path.{_≡_}
-use mathlib.Core.Bool.{Bool, true, false, Bool·beq}
+use mathlib.Core.Bool.{Bool, true, false}
 use mathlib.Core.List.{List}
 use lib.Dec.{ltb}
 use lib.ListN.{length, take, drop, getD}
@@ -29,14 +29,6 @@ pub record Alike (a b : List ℕ) (z : ℕ) : Type 0 where
   pub level : valueOf (drop (length a - z) b) ≡ valueOf (drop (length a - z) a)
   pub next : z < length a → getD a (length a - 1 - z) 0 ≡ getD b (length a - 1 - z) 0 → ⊥
 
--- their signs are unlike, z limbs at the top alike, and the next one of the first is larger
-pub record Parted (x y : Operand) (n z : ℕ) : Type 0 where
-  pub aligned : Aligned x y n
-  pub unlike : Bool·beq (x .negative) (y .negative) ≡ false
-  pub within : z < n
-  pub level : valueOf (drop (n - z) (y .limbs)) ≡ valueOf (drop (n - z) (x .limbs))
-  pub larger : getD (y .limbs) (n - 1 - z) 0 < getD (x .limbs) (n - 1 - z) 0
-
 -- two runs of n limbs, of which the first is no less below the top z
 pub record Reducible (first second : List ℕ) (n z : ℕ) : Type 0 where
   pub within : z ≤ n
@@ -49,7 +41,7 @@ pub record Subtracted (first second before after : List ℕ) (z : ℕ) : Type 0 
   pub size : length after ≡ length before
   pub value : valueOf after ≡ (valueOf (take (length before - z) first) - valueOf (take (length before - z) second)) * 2 ^ (64 * z)
 
--- all that there is of their sum stands in the target, moved up by z columns, with a carry on top, and no refusal is near
+-- all that there is of the sum of two such operands stands in the target, moved up by z columns, with a carry on top, and no refusal is near
 pub record Standing (p : ℕ) (x y : Operand) (target : List ℕ) (carry : Bool) (z top : ℕ) : Type 0 where
   pub room : Room p (length target)
   pub aligned : Aligned x y (length target)

@@ -1,9 +1,9 @@
 // Two regular numbers of one exponent, each with as many limbs as the target: every column is read, and the sum is exact before it is rounded.
 //
-//     column      0              z                n - 1
-//     xl       [ top limb .. | the first that differ .. ]
-//     yl       [ the same .. | ..                       ]
-//     target   [ the difference of these .. | 0 .. 0    ]
+//     column      0            z               n - 1
+//     first    [ alike     | a   a   ..   a       ]
+//     second   [ alike     | b   b   ..   b       ]
+//     target   [ a - b   a - b   ..   a - b | 0 0 ]     of unlike signs
 //
 ghost use mathlib.Core.Path.{_≡_};
 ghost use mathlib.Core.Bool.{true, false, cond, Bool·beq};
