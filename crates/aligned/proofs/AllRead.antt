@@ -34,7 +34,7 @@ use Rattle.bridge.proofs.Theorems.{leads-later, row-sum}
 use Rattle.descent.specs.Course.{Course}
 use Rattle.descent.proofs.GoingOn.{sum-below, difference-is}
 use Rattle.descent.proofs.GoingDown.{room-some, open-before}
-use Rattle.ending.proofs.Finishing.{room-pos}
+use Rattle.descent.proofs.JudgingRange.{digits-some}
 use Rattle.ending.proofs.RegularEnd.{deep-enough}
 use Rattle.wide.proofs.Unread.{row-read}
 use Rattle.wide.proofs.Level.{short-open}
@@ -77,7 +77,7 @@ module _ (o : Mode) (p : ℕ) (x y : Operand) (target : List ℕ) (carry : Bool)
   d = course .ordered
 
   P : 0 < p
-  P = room-pos p n (s .room)
+  P = digits-some p n (s .room)
 
   pub some : 1 ≤ n
   some = room-some p n (s .room)

@@ -21,7 +21,8 @@ use Rattle.numbers.specs.Limits.{leastExponent, mostExponent, limbsFor, mostPre
 use Rattle.numbers.specs.Operand.{Operand, WellFormed}
 use Rattle.rounding.proofs.Order.{le-or-lt}
 use Rattle.descent.specs.Ready.{Room}
-use Rattle.ending.proofs.Finishing.{room-some, cleared}
+use Rattle.descent.proofs.GoingDown.{room-some}
+use Rattle.ending.proofs.Finishing.{cleared}
 use Rattle.ending.proofs.Handed.{beq-turned}
 use Rattle.aligned.specs.Aligned.{Aligned, Alike, Reducible, Subtracted, Standing}
 use Rattle.aligned.proofs.Parting.{Parted, same-told, sum-all, course-sum, apart, lower-less, course-parted, difference-below}

@@ -27,7 +27,7 @@ use Rattle.bridge.proofs.Told.{top-is}
 use Rattle.bridge.proofs.Answers.{sum-pos}
 use Rattle.bridge.proofs.Covered.{columns-above}
 use Rattle.bridge.proofs.Refine.{scaled-up}
-use Rattle.ending.proofs.Finishing.{room-pos}
+use Rattle.descent.proofs.JudgingRange.{digits-some}
 use Rattle.ending.proofs.RegularEnd.{deep-enough, rounded-signed}
 use Rattle.reports.specs.Counts.{usedOf}
 use Rattle.reports.proofs.Counts.{used-all, used-is}
@@ -55,7 +55,7 @@ module _ (mode p : ℕ) (x y : Operand) (t : List ℕ) (carry : Bool) (z top : �
   D = readSum x y n
 
   P : 0 < p
-  P = room-pos p n (s .room)
+  P = digits-some p n (s .room)
 
   above : 64 * (n + z + 1) + 1 ≤ x .exponent
   above = columns-above x (a .first) (a .first-regular) (n + z + 1) (omega (arith, limbs-few o p x y t carry z top s, s .within, deep-enough))

@@ -6,10 +6,8 @@
 //
 ghost use mathlib.Core.Path.{_≡_};
 ghost use mathlib.Core.Bool.{true, false, cond};
-ghost use Prim.Native.Nat.{_+_, _*_, _^_, _≤_, _<_};
-ghost use lib.Dec.{ltb};
+ghost use Prim.Native.Nat.{_+_, _*_, _≤_, _<_};
 ghost use lib.ListN.{length};
-ghost use Rattle.numbers.specs.Limits.{leastExponent, mostExponent};
 ghost use Rattle.numbers.specs.Operand.{Operand};
 ghost use Rattle.rounding.specs.Mode.{modeOf};
 ghost use Rattle.descent.specs.Ready.{Room};
@@ -25,18 +23,6 @@ fn either(second: bool, a: u64, b: u64) -> u64
     ensures { λ r. ⌜ r ≡ cond second b a ⌝ }
 {
     if second { b } else { a }
-}
-
-// Whether no refusal is near after so many columns.
-fn is_inland(pair: Pair, columns: u64) -> bool
-    requires { ⌜ (pair .top ≤ 2 ^ 42) × (columns ≤ 2 ^ 20) ⌝ }
-    ensures { λ r. ⌜ (r ≡ true → pair .same ≡ true → ltb mostExponent (pair .top + 2) ≡ false) × (r ≡ true → pair .same ≡ false → ltb (pair .top + 1) (leastExponent + 64 * columns) ≡ false) ⌝ }
-{
-    if pair.same {
-        !bounds::is_high(pair.top)
-    } else {
-        !bounds::is_low(pair.top, columns)
-    }
 }
 
 // Copies limbs into a target of as many.
@@ -79,7 +65,7 @@ pub fn attempt(
     ensures { λ r. ⌜ (length (now (target .exit)) ≡ length (now (target .entry))) × (r .open ≡ false → (z w : Operand) → Holding z w pair (now (first .entry)) (now (second .entry)) → negative ≡ z .negative → Attempted (modeOf mode) p z w (now (target .exit)) (r .negative) (r .placed) (r .depth) (cond swapped (r .second) (r .first)) (cond swapped (r .first) (r .second))) ⌝ }
 {
     let n = target.len() as u64;
-    if !is_inland(pair, n - 1) {
+    if !descent::is_inland(pair, n - 1) {
         return nothing();
     }
     let guard = fill(pair.same, first, target);

@@ -32,7 +32,7 @@ use Rattle.bridge.proofs.Told.{pair-second}
 use Rattle.bridge.proofs.FarHole.{far-fixed, far-sum, far-difference}
 use Rattle.bridge.proofs.Covered.{columns-above}
 use Rattle.descent.specs.Ready.{Room}
-use Rattle.ending.proofs.Finishing.{room-pos}
+use Rattle.descent.proofs.JudgingRange.{digits-some}
 use Rattle.ending.proofs.RegularEnd.{deep-enough}
 use Rattle.wide.specs.Filling.{Holding, Rounds}
 use Rattle.wide.proofs.Unread.{row-hole}
@@ -78,7 +78,7 @@ module _ (p : ℕ) (pair : Pair) (u v n : ℕ) (after : List ℕ) (room : Room p
   w = way o (x .negative)
 
   some-p : 0 < p
-  some-p = room-pos p n room
+  some-p = digits-some p n room
 
   beyond : 64 ≤ pair .gap
   beyond = far-apart p n (pair .gap) room long far

@@ -44,7 +44,7 @@ use Rattle.bridge.proofs.Answers.{exact-sum, sum-pos}
 use Rattle.bridge.proofs.Covered.{columns-above}
 use Rattle.descent.specs.Ready.{Room}
 use Rattle.ending.specs.Finishing.{Left}
-use Rattle.ending.proofs.Finishing.{room-pos}
+use Rattle.descent.proofs.JudgingRange.{digits-some}
 use Rattle.ending.proofs.RegularEnd.{deep-enough}
 use Rattle.wide.specs.Filling.{Holding}
 use Rattle.wide.specs.Attempted.{Attempted}
@@ -98,7 +98,7 @@ module _ (p : ℕ) (pair : Pair) (u v n : ℕ) (room : Room p n) (long : 2 < n) 
   s = x .exponent - 64 * 2
 
   some-p : 0 < p
-  some-p = room-pos p n room
+  some-p = digits-some p n room
 
   many : 129 ≤ p
   unfolding limbsFor

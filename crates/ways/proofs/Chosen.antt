@@ -12,7 +12,7 @@ use borrow.Author.Tests.{eqb-true, leb-true, ltb-true}
 use lib.Dec.{leb, ltb, eqb}
 use Rattle.numbers.specs.Operand.{Operand}
 use Rattle.rounding.specs.Mode.{Mode}
-use Rattle.decide.proofs.Settled.{and-true}
+use Rattle.limb.proofs.Tests.{both-true}
 use Rattle.checks.specs.declared.Number.{Number}
 use Rattle.checks.specs.Number.{isZeroKind, operandOf}
 use Rattle.place.specs.declared.Placed.{Placed}
@@ -31,27 +31,27 @@ kind-told x xl e f = sym e ∙ f
 
 pub aligned-told : (x y : ℤ) (m k n : ℕ) → SFits w32 x → SFits w32 y → ((eqb (ofZ w32 x) (ofZ w32 y) && eqb m n) && eqb k n) ≡ true → (x ≡ y) × (m ≡ n) × (k ≡ n)
 aligned-told x y m k n f g h =
-    let a = and-true (eqb (ofZ w32 x) (ofZ w32 y) && eqb m n) (eqb k n) h in
-    let b = and-true (eqb (ofZ w32 x) (ofZ w32 y)) (eqb m n) (a .0) in
+    let a = both-true (eqb (ofZ w32 x) (ofZ w32 y) && eqb m n) (eqb k n) h in
+    let b = both-true (eqb (ofZ w32 x) (ofZ w32 y)) (eqb m n) (a .0) in
     (sym (toZ-ofZ f) ∙ ap (toZ w32) (eqb-true (ofZ w32 x) (ofZ w32 y) (b .0)) ∙ toZ-ofZ g, eqb-true m n (b .1), eqb-true k n (a .1))
 
 pub short-told : (m k n : ℕ) → ((eqb m 1 && eqb k 1) && ltb 2 n) ≡ true → (m ≡ 1) × (k ≡ 1) × (2 < n)
 short-told m k n h =
-    let a = and-true (eqb m 1 && eqb k 1) (ltb 2 n) h in
-    let b = and-true (eqb m 1) (eqb k 1) (a .0) in
+    let a = both-true (eqb m 1 && eqb k 1) (ltb 2 n) h in
+    let b = both-true (eqb m 1) (eqb k 1) (a .0) in
     (eqb-true m 1 (b .0), eqb-true k 1 (b .1), ltb-true 2 n (a .1))
 
 pub near-told : (first second n gap : ℕ) → (((eqb first n && eqb second n) && ltb 0 gap) && ltb gap 64) ≡ true → (first ≡ n) × (second ≡ n) × (0 < gap) × (gap < 64)
 near-told first second n gap h =
-    let a = and-true ((eqb first n && eqb second n) && ltb 0 gap) (ltb gap 64) h in
-    let b = and-true (eqb first n && eqb second n) (ltb 0 gap) (a .0) in
-    let c = and-true (eqb first n) (eqb second n) (b .0) in
+    let a = both-true ((eqb first n && eqb second n) && ltb 0 gap) (ltb gap 64) h in
+    let b = both-true (eqb first n && eqb second n) (ltb 0 gap) (a .0) in
+    let c = both-true (eqb first n) (eqb second n) (b .0) in
     (eqb-true first n (c .0), eqb-true second n (c .1), ltb-true 0 gap (b .1), ltb-true gap 64 (a .1))
 
 pub far-told : (p first n gap : ℕ) → ((eqb first n && leb (64 * n) gap) && ltb (p + 1) gap) ≡ true → (first ≡ n) × (64 * n ≤ gap) × (p + 1 < gap)
 far-told p first n gap h =
-    let a = and-true (eqb first n && leb (64 * n) gap) (ltb (p + 1) gap) h in
-    let b = and-true (eqb first n) (leb (64 * n) gap) (a .0) in
+    let a = both-true (eqb first n && leb (64 * n) gap) (ltb (p + 1) gap) h in
+    let b = both-true (eqb first n) (leb (64 * n) gap) (a .0) in
     (eqb-true first n (b .0), leb-true (64 * n) gap (b .1), ltb-true (p + 1) gap (a .1))
 
 pub far-asked : (p n : ℕ) → Room p n → (p + 1 < 2 ^ 64) × (64 * n < 2 ^ 64)
