@@ -6,7 +6,7 @@
 //     target   [ a - b   a - b   ..   a - b | 0 0 ]     of unlike signs
 //
 ghost use mathlib.Core.Path.{_≡_};
-ghost use mathlib.Core.Bool.{true, false, cond, Bool·beq};
+ghost use mathlib.Core.Bool.{false, cond, Bool·beq};
 ghost use Prim.Native.Nat.{_+_, _-_, _*_, _≤_, _<_};
 ghost use lib.Dec.{ltb};
 ghost use lib.ListN.{length, getD};

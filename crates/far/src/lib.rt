@@ -14,16 +14,10 @@ ghost use Rattle.descent.specs.Ready.{Room};
 ghost use Rattle.wide.specs.Filling.{Holding, Offered};
 ghost use Rattle.wide.specs.Attempted.{Attempted};
 ghost use Rattle.far.specs.Beside.{Beside};
+use choice::either;
 use settle::Pair;
 use wide::Wide;
 use wide::nothing;
-
-// The first of two counts, or the second.
-fn either(second: bool, a: u64, b: u64) -> u64
-    ensures { λ r. ⌜ r ≡ cond second b a ⌝ }
-{
-    if second { b } else { a }
-}
 
 // Copies limbs into a target of as many.
 fn copy(target: &mut [u64], source: &[u64])

@@ -1,6 +1,6 @@
 // What the first column of two operands fixes, whichever of them is the larger.
 ghost use mathlib.Core.Path.{_≡_};
-ghost use mathlib.Core.Bool.{true, false, cond};
+ghost use mathlib.Core.Bool.{true, false};
 ghost use Prim.Native.Nat.{_≤_};
 ghost use Rattle.numbers.specs.Limits.{leastPrecision};
 ghost use Rattle.numbers.specs.Operand.{WellFormed};
@@ -10,6 +10,8 @@ ghost use Rattle.narrow.specs.Looked.{Looked};
 use crate::seeing::Seen;
 use crate::seeing::see;
 use checks::Number;
+use choice::either;
+use choice::either_sign;
 use settle::Pair;
 
 // What is seen of two operands, in their own order: the sign of the larger, and the limbs used of each.
@@ -18,20 +20,6 @@ pub struct Sight {
     pub negative: bool,
     pub first: u64,
     pub second: u64,
-}
-
-// The first of two counts, or the second.
-fn either(second: bool, a: u64, b: u64) -> u64
-    ensures { λ r. ⌜ r ≡ cond second b a ⌝ }
-{
-    if second { b } else { a }
-}
-
-// The first of two flags, or the second.
-fn either_flag(second: bool, a: bool, b: bool) -> bool
-    ensures { λ r. ⌜ r ≡ cond second b a ⌝ }
-{
-    if second { b } else { a }
 }
 
 // Whether the second of two operands is larger, as far as exponents and top limbs tell.
@@ -51,7 +39,7 @@ pub fn look(mode: u8, x: Number, xl: &[u64], y: Number, yl: &[u64], p: u64) -> S
     let a = checks::counted_exponent(x.exponent);
     let b = checks::counted_exponent(y.exponent);
     let swapped = is_second_larger(a, b, u, v);
-    let negative = either_flag(swapped, x.negative, y.negative);
+    let negative = either_sign(swapped, x.negative, y.negative);
     let top = either(swapped, a, b);
     let gap = top - either(swapped, b, a);
     let pair = Pair {

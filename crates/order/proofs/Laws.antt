@@ -12,7 +12,7 @@ use Rattle.checks.specs.declared.Number.{Number}
 use Rattle.checks.specs.Number.{operandOf}
 use Rattle.checks.specs.Check.{comparedRefusal}
 use Rattle.rounding.specs.Sum.{scale, share}
-use Rattle.rounding.proofs.Order.{Cmp, cmp, compare-at}
+use Rattle.rounding.proofs.Order.{compare-at}
 use Rattle.rounding.proofs.Zeros.{share-zero, scale-commutes}
 use Rattle.rounding.proofs.Mirror.{share-turned, scale-turned}
 use Rattle.order.specs.Order.{orderOf, caseOf, numberOf, signOf, comparedOf}

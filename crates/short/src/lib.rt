@@ -1,9 +1,8 @@
 // A sum of two regular numbers of one limb each, in a target of three limbs or more: near each other it stands in two limbs and is exact; far apart the larger stands, with a little more below it or a little less.
 ghost use mathlib.Core.Path.{_≡_};
-ghost use mathlib.Core.Bool.{false, not, cond, _&&_, _||_};
+ghost use mathlib.Core.Bool.{false};
 ghost use mathlib.Core.List.{[], _∷_};
 ghost use Prim.Native.Nat.{_<_};
-ghost use lib.Dec.{ltb, eqb};
 ghost use lib.ListN.{length};
 ghost use Rattle.numbers.specs.Operand.{WellFormed};
 ghost use Rattle.rounding.specs.Mode.{modeOf};
@@ -19,38 +18,14 @@ mod apart; // apart.rt: more than the answer apart
 
 use apart::add_apart;
 use checks::Number;
+use choice::either;
+use choice::either_sign;
+use choice::is_level;
+use choice::is_second_larger;
 use close::add_close;
 use settle::Pair;
 use wide::Wide;
 use wide::nothing;
-
-// The first of two counts, or the second.
-fn either(second: bool, a: u64, b: u64) -> u64
-    ensures { λ r. ⌜ r ≡ cond second b a ⌝ }
-{
-    if second { b } else { a }
-}
-
-// The first of two signs, or the second.
-fn either_sign(second: bool, a: bool, b: bool) -> bool
-    ensures { λ r. ⌜ r ≡ cond second b a ⌝ }
-{
-    if second { b } else { a }
-}
-
-// Whether the second of two operands is larger.
-fn is_second_larger(a: u64, b: u64, u: u64, v: u64) -> bool
-    ensures { λ r. ⌜ r ≡ (ltb a b || (eqb a b && ltb u v)) ⌝ }
-{
-    (a < b) | ((a == b) & (u < v))
-}
-
-// Whether they cancel.
-fn is_level(same: bool, a: u64, b: u64, u: u64, v: u64) -> bool
-    ensures { λ r. ⌜ r ≡ (not same && (eqb a b && eqb u v)) ⌝ }
-{
-    !same & ((a == b) & (u == v))
-}
 
 // Adds two limbs in order, u the larger.
 fn add_in_order(

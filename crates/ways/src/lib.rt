@@ -1,55 +1,23 @@
 // A sum of two regular numbers in any order, read at once: which of them comes first, and in which way it is read.
 ghost use mathlib.Core.Path.{_≡_};
-ghost use mathlib.Core.Bool.{true, false, not, cond, _&&_, _||_};
+ghost use mathlib.Core.Bool.{true, false, not, cond};
 ghost use Prim.Native.Nat.{_+_, _*_, _^_, _≤_, _<_};
-ghost use lib.Dec.{ltb, eqb};
 ghost use lib.ListN.{length};
 ghost use Rattle.numbers.specs.Operand.{Operand, WellFormed};
 ghost use Rattle.rounding.specs.Mode.{modeOf};
 ghost use Rattle.checks.specs.Number.{operandOf};
 ghost use Rattle.descent.specs.Ready.{Room};
-ghost use Rattle.wide.specs.Filling.{Holding, Offered, Fills};
+ghost use Rattle.wide.specs.Filling.{Holding, Offered};
 ghost use Rattle.wide.specs.Attempted.{Attempted};
 use checks::Number;
+use choice::either;
+use choice::either_run;
+use choice::either_sign;
+use choice::is_level;
+use choice::is_second_larger;
 use settle::Pair;
-use wide::Filled;
 use wide::Wide;
 use wide::nothing;
-
-// The first of two counts, or the second.
-fn either(second: bool, a: u64, b: u64) -> u64
-    ensures { λ r. ⌜ r ≡ cond second b a ⌝ }
-{
-    if second { b } else { a }
-}
-
-// The first of two signs, or the second.
-fn either_sign(second: bool, a: bool, b: bool) -> bool
-    ensures { λ r. ⌜ r ≡ cond second b a ⌝ }
-{
-    if second { b } else { a }
-}
-
-// The first of two runs, or the second.
-fn either_run<'a>(second: bool, a: &'a [u64], b: &'a [u64]) -> &'a [u64]
-    ensures { λ r. ⌜ now r ≡ cond second (now (b .entry)) (now (a .entry)) ⌝ }
-{
-    if second { b } else { a }
-}
-
-// Whether the second of two operands is larger, as far as exponents and top limbs tell.
-fn is_second_larger(a: u64, b: u64, u: u64, v: u64) -> bool
-    ensures { λ r. ⌜ r ≡ (ltb a b || (eqb a b && ltb u v)) ⌝ }
-{
-    (a < b) | ((a == b) & (u < v))
-}
-
-// Whether they do not tell, and have to.
-fn is_level(same: bool, a: u64, b: u64, u: u64, v: u64) -> bool
-    ensures { λ r. ⌜ r ≡ (not same && (eqb a b && eqb u v)) ⌝ }
-{
-    !same & ((a == b) & (u == v))
-}
 
 // Whether two numbers have one exponent, and each as many limbs as the target.
 fn is_aligned(x: Number, m: usize, y: Number, k: usize, n: usize) -> bool

@@ -44,8 +44,8 @@ counted-exponent-requires-2 c κs = search needs
 is-second-larger-requires : tie.Need-is-second-larger-requires
 is-second-larger-requires c κs = search needs
 
-either-flag-requires : tie.Need-either-flag-requires
-either-flag-requires c κs = search needs
+either-sign-requires : tie.Need-either-sign-requires
+either-sign-requires c κs = search needs
 
 either-requires : tie.Need-either-requires
 either-requires c κs = search needs
@@ -99,7 +99,7 @@ returns c =
     let a = b .args in
     let first = rw (toZ-ofZ (record { sfits = c .before .before .before .before .before .before .before .before .before .before .before .before .before .before .before .before .struct-told .given .1 .1 .1 .0 .1 })) at (c .before .before .before .before .before .before .before .before .before .before .before .before .before .before .before .counted-exponent .ensures) in
     let second = rw (toZ-ofZ (record { sfits = c .before .before .before .before .before .before .before .before .before .before .before .before .before .before .struct-told2 .given .1 .1 .1 .0 .1 })) at (c .before .before .before .before .before .before .before .before .before .before .before .before .before .counted-exponent2 .ensures) in
-    looked (a .mode) (a .p) (b .pre .4) (b .pre .5) (a .x) (a .xl .now) (a .y) (a .yl .now) (b .pre .0) (b .pre .1) (b .pre .2) (b .pre .3) _ _ (topLimb (a .xl .now)) (topLimb (a .yl .now)) first second refl refl _ (c .before .before .before .before .before .before .before .before .before .before .before .before .is-second-larger .ensures) _ _ (c .before .before .before .before .before .before .before .before .before .before .either .ensures) (c .before .before .before .before .before .before .before .before .before .either2 .ensures) _ _ _ _ (c .before .before .before .before .before .before .either3 .ensures) (c .before .before .before .before .before .either4 .ensures) (c .before .before .before .before .either5 .ensures) (c .before .before .before .either6 .ensures) _ _ _ _ (c .before .before .before .before .before .before .before .before .before .before .before .either-flag .ensures) (c .before .before .see .ensures) (c .before .either7 .ensures) (c .either8 .ensures)
+    looked (a .mode) (a .p) (b .pre .4) (b .pre .5) (a .x) (a .xl .now) (a .y) (a .yl .now) (b .pre .0) (b .pre .1) (b .pre .2) (b .pre .3) _ _ (topLimb (a .xl .now)) (topLimb (a .yl .now)) first second refl refl _ (c .before .before .before .before .before .before .before .before .before .before .before .before .is-second-larger .ensures) _ _ (c .before .before .before .before .before .before .before .before .before .before .either .ensures) (c .before .before .before .before .before .before .before .before .before .either2 .ensures) _ _ _ _ (c .before .before .before .before .before .before .either3 .ensures) (c .before .before .before .before .before .either4 .ensures) (c .before .before .before .before .either5 .ensures) (c .before .before .before .either6 .ensures) _ _ _ _ (c .before .before .before .before .before .before .before .before .before .before .before .either-sign .ensures) (c .before .before .see .ensures) (c .before .either7 .ensures) (c .either8 .ensures)
 
 pub look-spec : {M : Type 1} → statement M
 look-spec =
@@ -114,7 +114,7 @@ look-spec =
     counted-exponent-requires
     counted-exponent-requires-2
     is-second-larger-requires
-    either-flag-requires
+    either-sign-requires
     either-requires
     either-requires-2
     sub-gap
