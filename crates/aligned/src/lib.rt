@@ -18,6 +18,7 @@ ghost use Rattle.descent.specs.Ready.{Room};
 ghost use Rattle.wide.specs.Attempted.{Attempted};
 ghost use Rattle.aligned.specs.Aligned.{Aligned, Alike, Reducible, Subtracted, Standing};
 use checks::Number;
+use choice::either_run;
 use wide::Wide;
 use wide::nothing;
 
@@ -57,15 +58,13 @@ fn subtract_below(target: &mut [u64], z: usize, first: &[u64], second: &[u64])
 }
 
 // The same, the second run first where so said.
-fn subtract_in_order(target: &mut [u64], z: usize, swapped: bool, a: &[u64], b: &[u64])
+fn subtract_in_order<'a>(target: &mut [u64], z: usize, swapped: bool, a: &'a [u64], b: &'a [u64])
     requires { ⌜ Reducible (cond swapped (now b) (now a)) (cond swapped (now a) (now b)) (length (now target)) z ⌝ }
     ensures { λ r. ⌜ Subtracted (cond swapped (now (b .entry)) (now (a .entry))) (cond swapped (now (a .entry)) (now (b .entry))) (now (target .entry)) (now (target .exit)) z ⌝ }
 {
-    if swapped {
-        subtract_below(target, z, b, a);
-        return;
-    }
-    subtract_below(target, z, a, b);
+    let first = either_run(swapped, a, b);
+    let second = either_run(swapped, b, a);
+    subtract_below(target, z, first, second);
 }
 
 // Rounds what stands in the target: all of a sum, moved up by so many columns.
@@ -103,12 +102,12 @@ fn round_whole(
 }
 
 // Two operands of unlike signs. Left open where a refusal is near, where no limbs differ, and where a borrow empties the target's top limb.
-fn subtract(
+fn subtract<'a>(
     mode: u8,
     x: Number,
-    xl: &[u64],
+    xl: &'a [u64],
     y: Number,
-    yl: &[u64],
+    yl: &'a [u64],
     top: u64,
     p: u64,
     target: &mut [u64],
@@ -133,12 +132,12 @@ fn subtract(
 }
 
 // Adds two regular numbers of one exponent that have as many limbs as the target.
-pub fn attempt(
+pub fn attempt<'a>(
     mode: u8,
     x: Number,
-    xl: &[u64],
+    xl: &'a [u64],
     y: Number,
-    yl: &[u64],
+    yl: &'a [u64],
     p: u64,
     target: &mut [u64],
 ) -> Wide
