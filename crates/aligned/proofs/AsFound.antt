@@ -26,12 +26,6 @@ use Rattle.aligned.proofs.Stands.{standing-sum, standing-difference, pa
 
 -- ---- in either order
 
-pub reducible-as : (b : Bool) {s : Bool} {n z : ℕ} (u v : List ℕ) → s ≡ b → Reducible (cond s v u) (cond s u v) n z → Reducible (cond b v u) (cond b u v) n z
-reducible-as b {s} {n} {z} u v e r = subst (λ (c : Bool). Reducible (cond c v u) (cond c u v) n z) e r
-
-pub subtracted-as : (b : Bool) {s : Bool} {t w : List ℕ} {z : ℕ} (u v : List ℕ) → s ≡ b → Subtracted (cond b v u) (cond b u v) t w z → Subtracted (cond s v u) (cond s u v) t w z
-subtracted-as b {s} {t} {w} {z} u v e r = subst (λ (c : Bool). Subtracted (cond c v u) (cond c u v) t w z) (sym e) r
-
 -- ---- numbers and their operands
 
 pub aligned-told : (x : Number) (xl : List ℕ) (y : Number) (yl : List ℕ) (n : ℕ) → WellFormed (operandOf x xl) → operandOf x xl .isZero ≡ false → WellFormed (operandOf y yl) → operandOf y yl .isZero ≡ false → x .exponent ≡ y .exponent → length xl ≡ n → length yl ≡ n

@@ -1,5 +1,4 @@
 -- `aligned::subtract_in_order` is right in each order. Assumes nothing.
-use mathlib.Core.Path.{sym}
 use borrow.Author.Needs.{needs}
 use Rattle.aligned.proofs.subtract_in_order.Statement.{statement}
 use Rattle.aligned.proofs.subtract_in_order.Tie as tie
