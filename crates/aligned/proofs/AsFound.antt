@@ -24,8 +24,6 @@ use Rattle.aligned.specs.Aligned.{Aligned, Alike, Reducible, Subtracted,
 use Rattle.aligned.proofs.Parting.{Parted}
 use Rattle.aligned.proofs.Stands.{standing-sum, standing-difference, parted, sign-told, reducible}
 
--- ---- in either order
-
 -- ---- numbers and their operands
 
 pub aligned-told : (x : Number) (xl : List ℕ) (y : Number) (yl : List ℕ) (n : ℕ) → WellFormed (operandOf x xl) → operandOf x xl .isZero ≡ false → WellFormed (operandOf y yl) → operandOf y yl .isZero ≡ false → x .exponent ≡ y .exponent → length xl ≡ n → length yl ≡ n
