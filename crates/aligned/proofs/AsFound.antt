@@ -24,6 +24,14 @@ use Rattle.aligned.specs.Aligned.{Aligned, Alike, Reducible, Subtracted,
 use Rattle.aligned.proofs.Parting.{Parted}
 use Rattle.aligned.proofs.Stands.{standing-sum, standing-difference, parted, sign-told, reducible}
 
+-- ---- the same runs under other names
+
+pub reducible-named : {a b first second : List ℕ} {n z : ℕ} → a ≡ first → b ≡ second → Reducible first second n z → Reducible a b n z
+reducible-named {a} {b} {first} {second} {n} {z} e f r = rw (e, f) r
+
+pub subtracted-named : {a b first second t w : List ℕ} {z : ℕ} → a ≡ first → b ≡ second → Subtracted a b t w z → Subtracted first second t w z
+subtracted-named {a} {b} {first} {second} {t} {w} {z} e f r = rw (← e, ← f) r
+
 -- ---- numbers and their operands
 
 pub aligned-told : (x : Number) (xl : List ℕ) (y : Number) (yl : List ℕ) (n : ℕ) → WellFormed (operandOf x xl) → operandOf x xl .isZero ≡ false → WellFormed (operandOf y yl) → operandOf y yl .isZero ≡ false → x .exponent ≡ y .exponent → length xl ≡ n → length yl ≡ n

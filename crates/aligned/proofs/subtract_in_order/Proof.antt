@@ -1,4 +1,5 @@
 -- `aligned::subtract_in_order` is right in each order. Assumes nothing.
+use Rattle.aligned.proofs.AsFound.{reducible-named, subtracted-named}
 use borrow.Author.Needs.{needs}
 use Rattle.aligned.proofs.subtract_in_order.Statement.{statement}
 use Rattle.aligned.proofs.subtract_in_order.Tie as tie
@@ -10,13 +11,13 @@ either-run-requires-2 : tie.Need-either-run-requires-2
 either-run-requires-2 c κs = search needs
 
 subtract-below-requires : tie.Need-subtract-below-requires
-subtract-below-requires c κs = rw (c .before .either-run .ensures, c .either-run2 .ensures) (c .before .before .before .before .pre)
+subtract-below-requires c κs = reducible-named (c .before .before .either-run .ensures) (c .before .either-run2 .ensures) (c .before .before .before .before .before .before .pre)
 
 same-length : tie.Need-same-length
 same-length c = search needs
 
 returns : tie.Need-returns
-returns c = search needs
+returns c = subtracted-named (c .before .before .before .before .before .either-run .ensures) (c .before .before .before .before .either-run2 .ensures) (c .before .before .subtract-below .ensures)
 
 pub subtract-in-order-spec : {M : Type 1} → statement M
 subtract-in-order-spec =
