@@ -4,7 +4,7 @@ use Rattle.ways.proofs.is_short.Statement.{statement}
 use Rattle.ways.proofs.is_short.Tie as tie
 
 returns : tie.Need-returns
-returns c = short-told (c .before .args .m) (c .before .args .k) (c .before .args .n)
+returns c = short-told (c .args .m) (c .args .k) (c .args .n)
 
 pub is-short-spec : {M : Type 1} → statement M
 is-short-spec = tie.close (tie.spec returns)
