@@ -3,7 +3,7 @@ use mathlib.Core.Path.{_≡_, refl, sym, ap, _∙_, subst}
 use mathlib.Core.Logic.{inl, inr}
 use mathlib.Core.Bool.{Bool, true, false, not, cond, Bool·beq}
 use mathlib.Core.List.{List}
-use Prim.Native.Nat.{ℕ, _+_, _-_, _*_, _^_, _≤_, _<_}
+use Prim.Native.Nat.{ℕ, _+_, _-_, _*_, _%_, _^_, _≤_, _<_}
 use native.Mathlib.Omega.{arith}
 use lib.Dec.{ltb}
 use lib.ListN.{length, getD}
@@ -22,6 +22,7 @@ use Rattle.wide.specs.Attempted.{Attempted}
 use Rattle.wide.proofs.InOrder.{attempted-told}
 use Rattle.aligned.specs.Aligned.{Aligned, Alike, Reducible, Subtracted, Standing}
 use Rattle.aligned.proofs.Parting.{Parted}
+use Rattle.aligned.proofs.Clean.{none-below}
 use Rattle.aligned.proofs.Stands.{standing-sum, standing-difference, parted, sign-told, reducible}
 
 -- ---- the same runs under other names
@@ -118,6 +119,18 @@ module _ (p : ℕ) (x : Number) (xl : List ℕ) (y : Number) (yl : List ℕ) (be
           even : (b : Bool) → X .exponent ≡ cond b Y X .exponent
           even true = sym (a .even)
           even false = refl
+
+      pub difference-clean : {t : List ℕ} → Standing p (cond s Y X) (cond s X Y) t false z top → x .precision ≤ p → y .precision ≤ p → valueOf t % 2 ^ (64 * length t - p) ≡ 0
+      unfolding operandOf
+      difference-clean {t} d h k = none-below p (cond s Y X) (cond s X Y) t z top d (parts-told .unlike) (first s) (second s)
+        where
+          first : (b : Bool) → cond b Y X .precision ≤ p
+          first true = k
+          first false = h
+
+          second : (b : Bool) → cond b X Y .precision ≤ p
+          second true = h
+          second false = k
 
       pub difference-told : (mode : ℕ) {exit : List ℕ} {negative : Bool} {placed : Placed} (k i j : ℕ) → j ≡ i → Attempted (modeOf mode) p (cond s Y X) (cond s X Y) exit negative placed k i j → Attempted (modeOf mode) p X Y exit negative placed k i j
       difference-told mode {exit} {negative} {placed} k i j e t =

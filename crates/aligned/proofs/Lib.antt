@@ -2,4 +2,5 @@ pub mod AllRead
 pub mod Parting
 pub mod Whole
 pub mod Stands
+pub mod Clean
 pub mod AsFound

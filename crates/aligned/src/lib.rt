@@ -7,9 +7,10 @@
 //
 ghost use mathlib.Core.Path.{_≡_};
 ghost use mathlib.Core.Bool.{false, cond, Bool·beq};
-ghost use Prim.Native.Nat.{_+_, _-_, _*_, _≤_, _<_};
+ghost use Prim.Native.Nat.{ℕ, _+_, _-_, _*_, _%_, _^_, _≤_, _<_};
 ghost use lib.Dec.{ltb};
 ghost use lib.ListN.{length, getD};
+ghost use Rattle.limb.specs.Value.{valueOf};
 ghost use Rattle.numbers.specs.Operand.{Operand, WellFormed};
 ghost use Rattle.rounding.specs.Mode.{modeOf};
 ghost use Rattle.checks.specs.Number.{operandOf};
@@ -101,6 +102,24 @@ fn round_whole(
     }
 }
 
+// The same for a difference of which nothing lies below the digits kept, whatever the mode.
+fn settle_whole(negative: bool, skipped: u64, top: u64, p: u64, target: &mut [u64]) -> Wide
+    requires { ⌜ (64 * (length (now target) + skipped + 1) ≤ top) × (runRule p false (now target) (top - 64 * (length (now target) + skipped + 1)) ≡ 0) × (valueOf (now target) % 2 ^ (64 * length (now target) - p) ≡ 0) ⌝ }
+    ensures { λ r. ⌜ (length (now (target .exit)) ≡ length (now (target .entry))) × (r .second ≡ r .first) × ((mode : ℕ) (x y : Operand) → Standing p x y (now (target .entry)) false skipped top → negative ≡ x .negative → Attempted (modeOf mode) p x y (now (target .exit)) (r .negative) (r .placed) (r .depth) (r .first) (r .second)) ⌝ }
+{
+    let n = target.len() as u64;
+    let unit = top - 64 * (n + skipped + 1);
+    let placed = place::round_exact(target, unit, p);
+    Wide {
+        open: false,
+        negative: negative,
+        placed: placed,
+        depth: n,
+        first: n,
+        second: n,
+    }
+}
+
 // Two operands of unlike signs. Left open where a refusal is near, where no limbs differ, and where a borrow empties the target's top limb.
 fn subtract<'a>(
     mode: u8,
@@ -127,6 +146,9 @@ fn subtract<'a>(
     subtract_in_order(target, z, swapped, xl, yl);
     if target[n - 1] == 0 {
         return nothing();
+    }
+    if (x.precision <= p) & (y.precision <= p) {
+        return settle_whole(x.negative != swapped, z as u64, top, p, target);
     }
     round_whole(mode, x.negative != swapped, false, z as u64, top, p, target)
 }

@@ -3,4 +3,5 @@ pub mod Placing
 pub mod Rules
 pub mod Finer
 pub mod Normalized
+pub mod Exact
 pub mod Examples

@@ -6,9 +6,11 @@
 //           [ p digits ][ digits below: offset + spare ]
 //
 ghost use mathlib.Core.Path.{_≡_};
-ghost use mathlib.Core.Bool.{false};
+ghost use mathlib.Core.Bool.{Bool, false};
 ghost use mathlib.Core.List.{[], _∷_};
-ghost use Prim.Native.Nat.{_^_, _≤_};
+ghost use Prim.Native.Nat.{ℕ, _-_, _*_, _%_, _^_, _≤_};
+ghost use lib.ListN.{length};
+ghost use Rattle.limb.specs.Value.{valueOf};
 ghost use Rattle.place.specs.Placed.{runRule};
 ghost use Rattle.place.specs.Rounded.{roundedPlaced, roundedLimbs};
 
@@ -67,6 +69,18 @@ pub fn round_fit(
         unit + precision + offset + spare + (over as u64),
         ternary(negative, at, up),
     )
+}
+
+// Rounds a target of which nothing lies below the digits kept, as `round_fit` does under every mode and sign.
+pub fn round_exact(target: &mut [u64], unit: u64, precision: u64) -> Placed
+    requires { ⌜ (runRule precision false (now target) unit ≡ 0) × (valueOf (now target) % 2 ^ (64 * length (now target) - precision) ≡ 0) ⌝ }
+    ensures { λ r. ⌜ ((mode : ℕ) (negative : Bool) → r ≡ roundedPlaced mode precision negative unit false (now (target .entry)) 0 false) ⌝ }
+    ensures { λ r. ⌜ ((mode : ℕ) (negative : Bool) → now (target .exit) ≡ roundedLimbs mode precision negative unit false (now (target .entry)) 0 false) ⌝ }
+{
+    let spare = 64 * (target.len() as u64) - precision;
+    let offset = reach(false, target);
+    truncate(false, target, 0, offset, spare);
+    settle(target, unit + precision + offset + spare, 0)
 }
 
 // Rounds a run of one limb whose first digit is 1 as `round_fit` does, by value.
