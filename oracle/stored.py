@@ -12,7 +12,6 @@ from itertools import chain
 
 import desk_cases
 from desk import desk
-from marked_words import conversation
 from vectors import comparisons, doubles, gate, lines, marked, pair_of, streams
 
 CRATES = os.path.join(os.path.dirname(os.path.dirname(os.path.abspath(__file__))), "crates")
@@ -29,7 +28,6 @@ PROGRAMS = {
     "tests_desk": agreeing_streams,
     "tests_doubles": doubles,
     "tests_lines": lines,
-    "tests_marked": conversation,
     "tests_order": comparisons,
     "tests_sums": lambda: chain(marked(), gate()),
 }
