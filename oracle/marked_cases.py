@@ -3,7 +3,7 @@
 from typing import NamedTuple
 
 from cases import ADD, LEAST, MOST, SUBTRACT, Case
-from errors import SHOWS, differs, shown
+from errors import SHOWS, differs
 from kernel import DOWN, MODES, NEAREST, UP, Answer, add, limb_count, power, regular
 from marked import written
 
@@ -16,8 +16,6 @@ class Row(NamedTuple):
     name: str
     case: Case
     wrong: Answer | None = None
-    right_words: str = ""
-    wrong_words: str = ""
 
 
 def asking(operation, x, y, precision, mode):
@@ -60,7 +58,7 @@ def errors():
         if not differs(right, wrong, variant):
             raise ValueError(f"{variant.__name__}: right and wrong do not differ")
         name = f"{variant.__doc__.splitlines()[0]} {name}, precision {precision}, mode {mode}"
-        yield Row(name, asking(ADD, x, y, precision, mode), wrong, shown(right), shown(wrong))
+        yield Row(name, asking(ADD, x, y, precision, mode), wrong)
 
 
 def rows():

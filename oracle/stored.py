@@ -12,24 +12,27 @@ from itertools import chain
 
 import desk_cases
 from desk import desk
-from marked_words import conversation
-from vectors import comparisons, doubles, gate, lines, marked, pair_of, streams
+from lines import LONGEST
+from vectors import comparisons, doubles, gate, lines, marked, pair_of
 
 CRATES = os.path.join(os.path.dirname(os.path.dirname(os.path.abspath(__file__))), "crates")
 
+SPLITS = ("whole", "pieces of 1", "pieces of 7", f"pieces of {LONGEST + 1}")
 
-def agreeing_streams():
-    """Inputs of the desk; `tests_desk` splits each in several ways, and says whether these agree."""
-    for given, told, refusal in streams():
-        yield given, told + " agree", refusal
+
+def split_streams():
+    """Inputs of the desk; `tests_desk` splits each in four ways, and all must print the same."""
+    for number, given in enumerate(desk_cases.streams(), 1):
+        printed = desk(given).decode()
+        told = [f"# {number}, {split}\n{printed}" for split in SPLITS]
+        yield given.hex(), "".join(told).removesuffix("\n"), None
 
 
 # what each program is run on; the output of a program must stay below 1 MiB
 PROGRAMS = {
-    "tests_desk": agreeing_streams,
+    "tests_desk": split_streams,
     "tests_doubles": doubles,
     "tests_lines": lines,
-    "tests_marked": conversation,
     "tests_order": comparisons,
     "tests_sums": lambda: chain(marked(), gate()),
 }

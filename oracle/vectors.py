@@ -18,6 +18,7 @@ from desk import desk
 from doubles import enclosing_pair, from_double, to_double
 from kernel import add, compare, reround, subtract
 from lines import read_line, write_line
+from marked_words import comments
 
 
 def field(value, size):
@@ -97,15 +98,11 @@ def comparisons():
 
 
 def marked():
-    return asked(row.case for row in marked_cases.rows())
-
-
-def marked_text():
-    """Each marked row in words and in fields, the right answer beside the wrong one."""
+    """Each marked row, in words and then in fields."""
     for row in marked_cases.rows():
-        yield f"{row.name}\n  asked  {sum_given(row.case)}\n  right  {sum_answer(row.case)[0]}\n"
-        if row.wrong is not None:
-            yield f"  wrong  {sum_fields(row.case, row.wrong)}\n  right: {row.right_words}\n  wrong: {row.wrong_words}\n"
+        words = comments(row, told_by(row.case))
+        told, refusal = sum_answer(row.case)
+        yield words + sum_given(row.case), words + told, refusal
 
 
 # Doubles
@@ -181,11 +178,6 @@ def write_pairs(folder, name, pairs):
           + (f"; refusals {counts}" if counts else ""))
 
 
-def write_marked(folder, name, pairs):
-    write_pairs(folder, name, pairs)
-    write_bytes(folder, f"{name}.txt", "".join(marked_text()).encode())
-
-
 def write_desk(folder, name, given):
     printed = desk(given)
     print(f"{name}: {write_bytes(folder, f'{name}.in', given)} bytes in, "
@@ -194,7 +186,7 @@ def write_desk(folder, name, given):
 
 FILES = {
     "sums": (write_pairs, sums), "compare": (write_pairs, comparisons), "gate": (write_pairs, gate),
-    "marked": (write_marked, marked), "doubles": (write_pairs, doubles), "lines": (write_pairs, lines),
+    "marked": (write_pairs, marked), "doubles": (write_pairs, doubles), "lines": (write_pairs, lines),
     "streams": (write_pairs, streams), "desk": (write_desk, desk_cases.long_input),
 }
 

@@ -278,11 +278,17 @@ struct Report {
 
 type Answers = fn(Fields) -> (String, Owned);
 
+/// Each question with its expected answer and its place among the lines. A line that begins with `#` asks nothing: it
+/// tells the next one in words.
+fn cases<'a>(questions: &'a str, expected: &'a str) -> impl Iterator<Item = (usize, (&'a str, &'a str))> {
+    questions.lines().zip(expected.lines()).enumerate().filter(|(_, (question, _))| !question.starts_with('#'))
+}
+
 /// Asks every question and compares with the expected answers, line by line.
 fn compare(name: &str, questions: &str, expected: &str, answers: Answers) -> Report {
     assert_eq!(questions.lines().count(), expected.lines().count(), "{name}: questions and answers");
     let mut report = Report::default();
-    for (index, (question, expected)) in questions.lines().zip(expected.lines()).enumerate() {
+    for (index, (question, expected)) in cases(questions, expected) {
         report.cases += 1;
         let mut differs = |face: &str, answer: &str| {
             let line = index + 1;
@@ -387,7 +393,7 @@ fn a_wrong_expectation_is_reported() {
     let folder = repository().join("crates/tests_sums");
     let text = |end: &str| std::fs::read_to_string(folder.join(end)).unwrap();
     let (questions, answers) = (text("stdin"), text("stdout"));
-    for (question, answer) in questions.lines().zip(answers.lines()).step_by(500) {
+    for (_, (question, answer)) in cases(&questions, &answers).step_by(500) {
         for at in 0..answer.len() {
             let other = if &answer[at..at + 1] == "0" { "1" } else { "0" };
             let wrong = format!("{answer}\n{}{other}{}\n{answer}\n", &answer[..at], &answer[at + 1..]);

@@ -54,6 +54,17 @@ fn answer(held: Held, first: &[u8], second: &[u8], third: &[u8], out: &mut [u8])
     groups::answer(&first[0..a], &second[0..b], &third[0..c], out)
 }
 
+// What was done of a piece so far.
+fn so_far(held: Held, taken: usize, told: usize) -> Served
+    ensures { λ r. ⌜ r ≡ record { held = held; taken = taken; told = told } ⌝ }
+{
+    Served {
+        held: held,
+        taken: taken,
+        told: told,
+    }
+}
+
 // Group after group, as long as there is room for a longest answer.
 fn serve_groups(
     held: Held,
@@ -72,30 +83,18 @@ fn serve_groups(
     let mut told: usize = 0;
     while taken < bytes.len() {
         if out.len() - told < most {
-            return Served {
-                held: h,
-                taken: taken,
-                told: told,
-            };
+            return so_far(h, taken, told);
         }
         let p = cut(h, &bytes[taken..], first, second, third);
         let k = p.held;
         taken += p.taken;
         if k.lines < 3 {
-            return Served {
-                held: k,
-                taken: taken,
-                told: told,
-            };
+            return so_far(k, taken, told);
         }
         told += answer(k, first, second, third, &mut out[told..]);
         h = start();
     }
-    Served {
-        held: h,
-        taken: taken,
-        told: told,
-    }
+    so_far(h, taken, told)
 }
 
 // Takes bytes of a piece, and prints the answers of the groups that end in it.

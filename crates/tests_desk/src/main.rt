@@ -1,10 +1,6 @@
-// Runs the stored inputs of the desk, one a line on standard input, each split into pieces in four ways, and prints what
-// the desk prints for it.
-//
-// An input stands in lowercase hexadecimal, and so does what the desk prints. After it stands `agree` where all splits
-// print the same; else each that prints something else, with the size of its pieces.
-mod pieces; // pieces.rt: one input, one way to split it
-mod agreeing; // agreeing.rt: whether the ways to split it agree
+// Runs the stored inputs of the desk, one a line on standard input in lowercase hexadecimal, each split into pieces in
+// four ways, and prints what the desk prints for each split, after a line `# 17, pieces of 7` that names it.
+mod pieces; // pieces.rt: one input, split in four ways
 
 ghost use Prim.Native.Nat.{_≤_};
 
@@ -30,16 +26,21 @@ fn bytes_at(digits: &[u8], bytes: &mut [u8; INPUT_ROOM]) -> usize
     i
 }
 
+// How many digits of a line are held, and which input it is, counted from 1.
+struct Reading {
+    held: usize,
+    input: u64,
+}
+
 // A whole line.
-fn run_line(line: &[u8; LINE_DIGITS], held: usize, bytes: &mut [u8; INPUT_ROOM])
-    requires { ⌜ held ≤ 65536 ⌝ }
+fn run_line(r: Reading, line: &[u8; LINE_DIGITS], bytes: &mut [u8; INPUT_ROOM])
+    requires { ⌜ r .held ≤ 65536 ⌝ }
 {
     let digits = &line[..];
+    let held = r.held;
     let n = bytes_at(&digits[0..held], bytes);
     let given = &bytes[..];
-    let mut whole = io::buffer();
-    let mut part = io::buffer();
-    agreeing::run_input(&given[0..n], &mut whole, &mut part);
+    pieces::run_input(r.input, &given[0..n]);
 }
 
 // One byte more of a line, while there is room.
@@ -53,50 +54,56 @@ fn keep(line: &mut [u8; LINE_DIGITS], held: usize, b: u8) -> usize
     LINE_DIGITS
 }
 
-// A byte of the input; how many of a line are held then.
+// A byte of the input.
 fn take_byte(
     b: u8,
-    held: usize,
+    r: Reading,
     line: &mut [u8; LINE_DIGITS],
     bytes: &mut [u8; INPUT_ROOM],
-) -> usize
-    requires { ⌜ held ≤ 65536 ⌝ }
-    ensures { λ r. ⌜ r ≤ 65536 ⌝ }
+) -> Reading
+    requires { ⌜ r .held ≤ 65536 ⌝ }
+    ensures { λ s. ⌜ s .held ≤ 65536 ⌝ }
 {
     if b == 10 {
-        run_line(line, held, bytes);
-        return 0;
+        run_line(r, line, bytes);
+        return Reading {
+            held: 0,
+            input: std::num::wrapping_add_u64(r.input, 1),
+        };
     }
-    keep(line, held, b)
+    Reading {
+        held: keep(line, r.held, b),
+        input: r.input,
+    }
 }
 
 fn run_chunk(
     chunk: &[u8],
-    held: usize,
+    start: Reading,
     line: &mut [u8; LINE_DIGITS],
     bytes: &mut [u8; INPUT_ROOM],
-) -> usize
-    requires { ⌜ held ≤ 65536 ⌝ }
-    ensures { λ r. ⌜ r ≤ 65536 ⌝ }
+) -> Reading
+    requires { ⌜ start .held ≤ 65536 ⌝ }
+    ensures { λ r. ⌜ r .held ≤ 65536 ⌝ }
 {
-    let mut n = held;
+    let mut r = start;
     let mut i: usize = 0;
     while i < chunk.len() {
-        n = take_byte(chunk[i], n, line, bytes);
+        r = take_byte(chunk[i], r, line, bytes);
         i += 1;
     }
-    n
+    r
 }
 
 fn run_all(buf: &mut [u8], line: &mut [u8; LINE_DIGITS], bytes: &mut [u8; INPUT_ROOM]) {
-    let mut held: usize = 0;
+    let mut r = Reading { held: 0, input: 1 };
     let mut turns: u64 = 18446744073709551615;
     while 0 < turns {
         let got = io::read_full(0, buf);
         if got == 0 {
             return;
         }
-        held = run_chunk(&buf[0..got], held, line, bytes);
+        r = run_chunk(&buf[0..got], r, line, bytes);
         turns -= 1;
     }
 }

@@ -1,13 +1,41 @@
-// Runs the sums, differences and re-roundings on standard input, one a line, and prints one answer a line.
+// Runs the sums, differences and re-roundings on standard input, one a line, and prints one answer a line. A line that
+// begins with `#` is printed as it is: it tells what the next line asks, and the expected answer, in words.
+mod case; // case.rt: one case
+
 ghost use Prim.Native.Nat.{_≤_};
 
-fn print_case(line: &[u8; 4096], held: usize, out: &mut [u8; 4096])
+fn is_comment(line: &[u8]) -> bool {
+    if line.len() == 0 {
+        return false;
+    }
+    line[0] == b'#'
+}
+
+fn print_comment(line: &[u8]) {
+    io::write_all(1, line);
+    io::write_all(1, b"\n");
+}
+
+fn print_answer(line: &[u8], out: &mut [u8; 4096]) {
+    let n = case::run_case(line, out);
+    let told = &out[..];
+    io::write_all(1, &told[0..n]);
+}
+
+fn take_line(line: &[u8], out: &mut [u8; 4096]) {
+    if is_comment(line) {
+        print_comment(line);
+        return;
+    }
+    print_answer(line, out);
+}
+
+// A whole line.
+fn run_line(line: &[u8; 4096], held: usize, out: &mut [u8; 4096])
     requires { ⌜ held ≤ 4096 ⌝ }
 {
     let whole = &line[..];
-    let n = sum_vectors::run_case(&whole[0..held], out);
-    let told = &out[..];
-    io::write_all(1, &told[0..n]);
+    take_line(&whole[0..held], out);
 }
 
 // Every line that ends in the chunk; the state after it.
@@ -24,7 +52,7 @@ fn run_chunk(
         if !c.whole {
             return c;
         }
-        print_case(line, c.held, out);
+        run_line(line, c.held, out);
         c = vectors::cut(c, chunk, line);
     }
     c

@@ -7,10 +7,10 @@ use Rattle.tests_desk.proofs.run_all.Statement.{statement}
 use Rattle.tests_desk.proofs.run_all.Tie as tie
 
 abbrev Inv-loop : tie.InvT-loop
-Inv-loop buf₀ line₀ bytes₀ held₀ turns₀ buf line bytes held turns = (length buf ≡ length buf₀) × (held ≤ 65536)
+Inv-loop buf₀ line₀ bytes₀ r₀ turns₀ buf line bytes r turns = (length buf ≡ length buf₀) × (r .held ≤ 65536)
 
 abbrev μ-loop : tie.MeasureT-loop
-μ-loop buf₀ line₀ bytes₀ held₀ turns₀ buf line bytes held turns = turns
+μ-loop buf₀ line₀ bytes₀ r₀ turns₀ buf line bytes r turns = turns
 
 loop-holds : tie.Need-loop-holds Inv-loop μ-loop
 loop-holds c = search needs

@@ -6,10 +6,10 @@ use Rattle.tests_desk.proofs.run_chunk.Statement.{statement}
 use Rattle.tests_desk.proofs.run_chunk.Tie as tie
 
 abbrev Inv-loop : tie.InvT-loop
-Inv-loop chunk held line₀ bytes₀ n₀ i₀ line bytes n i = n ≤ 65536
+Inv-loop chunk line₀ bytes₀ r₀ i₀ line bytes r i = r .held ≤ 65536
 
 abbrev μ-loop : tie.MeasureT-loop
-μ-loop chunk held line₀ bytes₀ n₀ i₀ line bytes n i = length chunk - i
+μ-loop chunk line₀ bytes₀ r₀ i₀ line bytes r i = length chunk - i
 
 loop-holds : tie.Need-loop-holds Inv-loop μ-loop
 loop-holds c = search needs

@@ -22,8 +22,8 @@ sub-turns c = search needs
 returns : tie.Need-returns Inv-loop μ-loop
 returns c = search needs
 
-print-case-requires : tie.Need-print-case-requires Inv-loop μ-loop
-print-case-requires c κs = search needs
+run-line-requires : tie.Need-run-line-requires Inv-loop μ-loop
+run-line-requires c κs = search needs
 
 cut-requires-2 : tie.Need-cut-requires-2 Inv-loop μ-loop
 cut-requires-2 c κs = search needs
@@ -47,7 +47,7 @@ run-chunk-spec =
     loop-holds
     sub-turns
     returns
-    print-case-requires
+    run-line-requires
     cut-requires-2
     loop-less
     loop-again

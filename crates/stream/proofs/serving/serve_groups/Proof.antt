@@ -27,32 +27,35 @@ loop-holds c =
 sub-if1 : tie.Need-sub-if1 Inv-loop μ-loop
 sub-if1 c = c .before .loop .inv .fits
 
+so-far-requires : tie.Need-so-far-requires Inv-loop μ-loop
+so-far-requires c κs = search needs
+
 same-length : tie.Need-same-length Inv-loop μ-loop
 same-length c =
-    let g = c .before .before .before .before .before .before .before .before .before .args in
-    let l = c .before .before .loop in
+    let g = c .before .before .before .before .before .before .before .before .before .before .args in
+    let l = c .before .before .before .loop in
     l .inv .rooms .first ∙ sym (is-ready (record { held = g .held; first = g .first .now; second = g .second .now; third = g .third .now }) (g .out .now) (l .inv .ready) .rooms .first)
 
 same-length-2 : tie.Need-same-length-2 Inv-loop μ-loop
 same-length-2 c =
-    let g = c .before .before .before .before .before .before .before .before .before .args in
-    let l = c .before .before .loop in
+    let g = c .before .before .before .before .before .before .before .before .before .before .args in
+    let l = c .before .before .before .loop in
     l .inv .rooms .second ∙ sym (is-ready (record { held = g .held; first = g .first .now; second = g .second .now; third = g .third .now }) (g .out .now) (l .inv .ready) .rooms .second)
 
 same-length-3 : tie.Need-same-length-3 Inv-loop μ-loop
 same-length-3 c =
-    let g = c .before .before .before .before .before .before .before .before .before .args in
-    let l = c .before .before .loop in
+    let g = c .before .before .before .before .before .before .before .before .before .before .args in
+    let l = c .before .before .before .loop in
     l .inv .rooms .third ∙ sym (is-ready (record { held = g .held; first = g .first .now; second = g .second .now; third = g .third .now }) (g .out .now) (l .inv .ready) .rooms .third)
 
 same-length-4 : tie.Need-same-length-4 Inv-loop μ-loop
-same-length-4 c = c .before .before .loop .inv .same
+same-length-4 c = c .before .before .before .loop .inv .same
 
 returns : tie.Need-returns Inv-loop μ-loop
 returns c =
-    let g = c .before .before .before .before .before .before .before .before .before .args in
-    let l = c .before .before .loop in
-    stops-full (c .before .before .before .longest-answer .result) (record { held = g .held; first = g .first .now; second = g .second .now; third = g .third .now }) (g .bytes .now) (g .out .now) (record { held = l .h; first = l .first; second = l .second; third = l .third }) (l .out) (l .taken) (l .told) (l .inv) (c .before .loop-test .taken) (c .if1 .taken)
+    let g = c .before .before .before .before .before .before .before .before .before .before .args in
+    let l = c .before .before .before .loop in
+    rw (c .so-far .ensures) (stops-full (c .before .before .before .before .longest-answer .result) (record { held = g .held; first = g .first .now; second = g .second .now; third = g .third .now }) (g .bytes .now) (g .out .now) (record { held = l .h; first = l .first; second = l .second; third = l .third }) (l .out) (l .taken) (l .told) (l .inv) (c .before .before .loop-test .taken) (c .before .if1 .taken))
 
 sub-cut : tie.Need-sub-cut Inv-loop μ-loop
 sub-cut c = search needs
@@ -74,36 +77,39 @@ add-taken c =
     let f = taken-far (c .before .before .before .before .before .before .before .before .before .before .before .before .before .before .before .before .longest-answer .result) (record { held = g .held; first = g .first .now; second = g .second .now; third = g .third .now }) (g .bytes .now) (g .out .now) (record { held = l .h; first = l .first; second = l .second; third = l .third }) (l .out) (l .taken) (l .told) (l .inv) (c .before .before .before .before .before .before .before .before .before .before .before .before .before .before .loop-test .taken) (c .before .before .before .before .before .before .before .before .before .before .before .before .before .if1 .left) (k .result) (k .last .1 .1 .0) (k .last .1 .1 .1 .0) (k .last .1 .1 .1 .1 .0) (k .ensures) in
     record { fits = omega (arith, f, c .before .before .before .before .before .before .before .before .before .before .before .before .before .before .before .before .before .before .before .before .before .before .good .1 .0 .0) }
 
+so-far-requires-2 : tie.Need-so-far-requires-2 Inv-loop μ-loop
+so-far-requires-2 c κs = search needs
+
 same-length-5 : tie.Need-same-length-5 Inv-loop μ-loop
 same-length-5 c =
-    let g = c .before .before .before .before .before .before .before .before .before .before .before .before .before .before .before .before .before .before .before .before .before .before .before .before .args in
-    let l = c .before .before .before .before .before .before .before .before .before .before .before .before .before .before .before .before .before .loop in
-    let k = c .before .before .before .before .before .before .before .before .before .before .cut in
+    let g = c .before .before .before .before .before .before .before .before .before .before .before .before .before .before .before .before .before .before .before .before .before .before .before .before .before .args in
+    let l = c .before .before .before .before .before .before .before .before .before .before .before .before .before .before .before .before .before .before .loop in
+    let k = c .before .before .before .before .before .before .before .before .before .before .before .cut in
     k .kept .1 .1 .0 ∙ l .inv .rooms .first ∙ sym (is-ready (record { held = g .held; first = g .first .now; second = g .second .now; third = g .third .now }) (g .out .now) (l .inv .ready) .rooms .first)
 
 same-length-6 : tie.Need-same-length-6 Inv-loop μ-loop
 same-length-6 c =
-    let g = c .before .before .before .before .before .before .before .before .before .before .before .before .before .before .before .before .before .before .before .before .before .before .before .before .args in
-    let l = c .before .before .before .before .before .before .before .before .before .before .before .before .before .before .before .before .before .loop in
-    let k = c .before .before .before .before .before .before .before .before .before .before .cut in
+    let g = c .before .before .before .before .before .before .before .before .before .before .before .before .before .before .before .before .before .before .before .before .before .before .before .before .before .args in
+    let l = c .before .before .before .before .before .before .before .before .before .before .before .before .before .before .before .before .before .before .loop in
+    let k = c .before .before .before .before .before .before .before .before .before .before .before .cut in
     k .kept .1 .1 .1 .0 ∙ l .inv .rooms .second ∙ sym (is-ready (record { held = g .held; first = g .first .now; second = g .second .now; third = g .third .now }) (g .out .now) (l .inv .ready) .rooms .second)
 
 same-length-7 : tie.Need-same-length-7 Inv-loop μ-loop
 same-length-7 c =
-    let g = c .before .before .before .before .before .before .before .before .before .before .before .before .before .before .before .before .before .before .before .before .before .before .before .before .args in
-    let l = c .before .before .before .before .before .before .before .before .before .before .before .before .before .before .before .before .before .loop in
-    let k = c .before .before .before .before .before .before .before .before .before .before .cut in
+    let g = c .before .before .before .before .before .before .before .before .before .before .before .before .before .before .before .before .before .before .before .before .before .before .before .before .before .args in
+    let l = c .before .before .before .before .before .before .before .before .before .before .before .before .before .before .before .before .before .before .loop in
+    let k = c .before .before .before .before .before .before .before .before .before .before .before .cut in
     k .kept .1 .1 .1 .1 .0 ∙ l .inv .rooms .third ∙ sym (is-ready (record { held = g .held; first = g .first .now; second = g .second .now; third = g .third .now }) (g .out .now) (l .inv .ready) .rooms .third)
 
 same-length-8 : tie.Need-same-length-8 Inv-loop μ-loop
-same-length-8 c = c .before .before .before .before .before .before .before .before .before .before .before .before .before .before .before .before .before .loop .inv .same
+same-length-8 c = c .before .before .before .before .before .before .before .before .before .before .before .before .before .before .before .before .before .before .loop .inv .same
 
 returns-2 : tie.Need-returns-2 Inv-loop μ-loop
 returns-2 c =
-    let g = c .before .before .before .before .before .before .before .before .before .before .before .before .before .before .before .before .before .before .before .before .before .before .before .before .args in
-    let l = c .before .before .before .before .before .before .before .before .before .before .before .before .before .before .before .before .before .loop in
-    let k = c .before .before .before .before .before .before .before .before .before .before .cut in
-    waits-served (c .before .before .before .before .before .before .before .before .before .before .before .before .before .before .before .before .before .before .longest-answer .result) (record { held = g .held; first = g .first .now; second = g .second .now; third = g .third .now }) (g .bytes .now) (g .out .now) (record { held = l .h; first = l .first; second = l .second; third = l .third }) (l .out) (l .taken) (l .told) (l .inv) (c .before .before .before .before .before .before .before .before .before .before .before .before .before .before .before .before .loop-test .taken) (c .before .before .before .before .before .before .before .before .before .before .before .before .before .before .before .if1 .left) (k .result) (k .last .1 .1 .0) (k .last .1 .1 .1 .0) (k .last .1 .1 .1 .1 .0) (k .ensures) (c .if2 .taken)
+    let g = c .before .before .before .before .before .before .before .before .before .before .before .before .before .before .before .before .before .before .before .before .before .before .before .before .before .args in
+    let l = c .before .before .before .before .before .before .before .before .before .before .before .before .before .before .before .before .before .before .loop in
+    let k = c .before .before .before .before .before .before .before .before .before .before .before .cut in
+    rw (c .so-far2 .ensures) (waits-served (c .before .before .before .before .before .before .before .before .before .before .before .before .before .before .before .before .before .before .before .longest-answer .result) (record { held = g .held; first = g .first .now; second = g .second .now; third = g .third .now }) (g .bytes .now) (g .out .now) (record { held = l .h; first = l .first; second = l .second; third = l .third }) (l .out) (l .taken) (l .told) (l .inv) (c .before .before .before .before .before .before .before .before .before .before .before .before .before .before .before .before .before .loop-test .taken) (c .before .before .before .before .before .before .before .before .before .before .before .before .before .before .before .before .if1 .left) (k .result) (k .last .1 .1 .0) (k .last .1 .1 .1 .0) (k .last .1 .1 .1 .1 .0) (k .ensures) (c .before .if2 .taken))
 
 sub-answer : tie.Need-sub-answer Inv-loop μ-loop
 sub-answer c = search needs
@@ -149,32 +155,35 @@ loop-again c =
     let a = c .before .before .before .answer in
     serving-next (c .before .before .before .before .before .before .before .before .before .before .before .before .before .before .before .before .before .before .before .before .before .before .before .before .before .before .longest-answer .result) (record { held = g .held; first = g .first .now; second = g .second .now; third = g .third .now }) (g .bytes .now) (g .out .now) (record { held = l .h; first = l .first; second = l .second; third = l .third }) (l .out) (l .taken) (l .told) (l .inv) (c .before .before .before .before .before .before .before .before .before .before .before .before .before .before .before .before .before .before .before .before .before .before .before .before .loop-test .taken) (c .before .before .before .before .before .before .before .before .before .before .before .before .before .before .before .before .before .before .before .before .before .before .before .if1 .left) (k .result) (k .last .1 .1 .0) (k .last .1 .1 .1 .0) (k .last .1 .1 .1 .1 .0) (k .ensures) (c .before .before .before .before .before .before .before .before .if2 .left) (a .result) (a .last .1 .1 .1 .1 .0) (a .ensures) (a .kept .1 .1 .1 .1 .0) (c .start .result) (c .start .ensures) (record { first = k .kept .1 .1 .0 ∙ l .inv .rooms .first; second = k .kept .1 .1 .1 .0 ∙ l .inv .rooms .second; third = k .kept .1 .1 .1 .1 .0 ∙ l .inv .rooms .third }) (taken-far (c .before .before .before .before .before .before .before .before .before .before .before .before .before .before .before .before .before .before .before .before .before .before .before .before .before .before .longest-answer .result) (record { held = g .held; first = g .first .now; second = g .second .now; third = g .third .now }) (g .bytes .now) (g .out .now) (record { held = l .h; first = l .first; second = l .second; third = l .third }) (l .out) (l .taken) (l .told) (l .inv) (c .before .before .before .before .before .before .before .before .before .before .before .before .before .before .before .before .before .before .before .before .before .before .before .before .loop-test .taken) (c .before .before .before .before .before .before .before .before .before .before .before .before .before .before .before .before .before .before .before .before .before .before .before .if1 .left) (k .result) (k .last .1 .1 .0) (k .last .1 .1 .1 .0) (k .last .1 .1 .1 .1 .0) (k .ensures))
 
+so-far-requires-3 : tie.Need-so-far-requires-3 Inv-loop μ-loop
+so-far-requires-3 c κs = search needs
+
 same-length-9 : tie.Need-same-length-9 Inv-loop μ-loop
 same-length-9 c =
-    let g = c .before .before .before .before .before .before .before .before .args in
-    let l = c .before .loop in
+    let g = c .before .before .before .before .before .before .before .before .before .args in
+    let l = c .before .before .loop in
     l .inv .rooms .first ∙ sym (is-ready (record { held = g .held; first = g .first .now; second = g .second .now; third = g .third .now }) (g .out .now) (l .inv .ready) .rooms .first)
 
 same-length-10 : tie.Need-same-length-10 Inv-loop μ-loop
 same-length-10 c =
-    let g = c .before .before .before .before .before .before .before .before .args in
-    let l = c .before .loop in
+    let g = c .before .before .before .before .before .before .before .before .before .args in
+    let l = c .before .before .loop in
     l .inv .rooms .second ∙ sym (is-ready (record { held = g .held; first = g .first .now; second = g .second .now; third = g .third .now }) (g .out .now) (l .inv .ready) .rooms .second)
 
 same-length-11 : tie.Need-same-length-11 Inv-loop μ-loop
 same-length-11 c =
-    let g = c .before .before .before .before .before .before .before .before .args in
-    let l = c .before .loop in
+    let g = c .before .before .before .before .before .before .before .before .before .args in
+    let l = c .before .before .loop in
     l .inv .rooms .third ∙ sym (is-ready (record { held = g .held; first = g .first .now; second = g .second .now; third = g .third .now }) (g .out .now) (l .inv .ready) .rooms .third)
 
 same-length-12 : tie.Need-same-length-12 Inv-loop μ-loop
-same-length-12 c = c .before .loop .inv .same
+same-length-12 c = c .before .before .loop .inv .same
 
 returns-3 : tie.Need-returns-3 Inv-loop μ-loop
 returns-3 c =
-    let g = c .before .before .before .before .before .before .before .before .args in
-    let l = c .before .loop in
-    stops-ended (c .before .before .longest-answer .result) (record { held = g .held; first = g .first .now; second = g .second .now; third = g .third .now }) (g .bytes .now) (g .out .now) (record { held = l .h; first = l .first; second = l .second; third = l .third }) (l .out) (l .taken) (l .told) (l .inv) (c .loop-test .left)
+    let g = c .before .before .before .before .before .before .before .before .before .args in
+    let l = c .before .before .loop in
+    rw (c .so-far3 .ensures) (stops-ended (c .before .before .before .longest-answer .result) (record { held = g .held; first = g .first .now; second = g .second .now; third = g .third .now }) (g .bytes .now) (g .out .now) (record { held = l .h; first = l .first; second = l .second; third = l .third }) (l .out) (l .taken) (l .told) (l .inv) (c .before .loop-test .left))
 
 pub serve-groups-spec : {M : Type 1} → statement M
 serve-groups-spec =
@@ -185,6 +194,7 @@ serve-groups-spec =
     longest-answer-requires
     loop-holds
     sub-if1
+    so-far-requires
     same-length
     same-length-2
     same-length-3
@@ -195,6 +205,7 @@ serve-groups-spec =
     part-cut-end
     cut-requires
     add-taken
+    so-far-requires-2
     same-length-5
     same-length-6
     same-length-7
@@ -208,6 +219,7 @@ serve-groups-spec =
     start-requires
     loop-less
     loop-again
+    so-far-requires-3
     same-length-9
     same-length-10
     same-length-11

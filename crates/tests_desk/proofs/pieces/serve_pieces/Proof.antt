@@ -7,12 +7,11 @@ use Rattle.tests_desk.proofs.pieces.serve_pieces.Statement.{statement}
 use Rattle.tests_desk.proofs.pieces.serve_pieces.Tie as tie
 
 abbrev Inv-loop : tie.InvT-loop
-Inv-loop bytes size first₀ second₀ third₀ out₀ text₀ held₀ at₀ place₀ first second third out text held at place =
-    (at ≤ length bytes) × (place ≤ 4096) × (length first ≡ length first₀) × (length second ≡ length second₀) × (length third ≡ length third₀) × (length out ≡ length out₀)
+Inv-loop bytes size first₀ second₀ third₀ out₀ held₀ at₀ first second third out held at =
+    (at ≤ length bytes) × (length first ≡ length first₀) × (length second ≡ length second₀) × (length third ≡ length third₀) × (length out ≡ length out₀)
 
 abbrev μ-loop : tie.MeasureT-loop
-μ-loop bytes size first₀ second₀ third₀ out₀ text₀ held₀ at₀ place₀ first second third out text held at place =
-    length bytes - at
+μ-loop bytes size first₀ second₀ third₀ out₀ held₀ at₀ first second third out held at = length bytes - at
 
 start-requires : tie.Need-start-requires Inv-loop μ-loop
 start-requires c κs = search needs
@@ -23,17 +22,29 @@ loop-holds c = search needs
 piece-end-requires : tie.Need-piece-end-requires Inv-loop μ-loop
 piece-end-requires c κs = search needs
 
-sub-serve-piece : tie.Need-sub-serve-piece Inv-loop μ-loop
-sub-serve-piece c = search needs
+sub-serve : tie.Need-sub-serve Inv-loop μ-loop
+sub-serve c = search needs
 
-part-serve-piece-start : tie.Need-part-serve-piece-start Inv-loop μ-loop
-part-serve-piece-start c = search needs
+part-serve-start : tie.Need-part-serve-start Inv-loop μ-loop
+part-serve-start c = search needs
 
-part-serve-piece-end : tie.Need-part-serve-piece-end Inv-loop μ-loop
-part-serve-piece-end c = search needs
+part-serve-end : tie.Need-part-serve-end Inv-loop μ-loop
+part-serve-end c = search needs
 
-serve-piece-requires : tie.Need-serve-piece-requires Inv-loop μ-loop
-serve-piece-requires c κs = search needs
+serve-requires : tie.Need-serve-requires Inv-loop μ-loop
+serve-requires c κs = search needs
+
+sub-write-all : tie.Need-sub-write-all Inv-loop μ-loop
+sub-write-all c = search needs
+
+part-write-all-start : tie.Need-part-write-all-start Inv-loop μ-loop
+part-write-all-start c = search needs
+
+part-write-all-end : tie.Need-part-write-all-end Inv-loop μ-loop
+part-write-all-end c = search needs
+
+write-all-requires : tie.Need-write-all-requires Inv-loop μ-loop
+write-all-requires c κs = search needs
 
 same-length : tie.Need-same-length Inv-loop μ-loop
 same-length c = search needs
@@ -58,9 +69,9 @@ loop-less c = search needs
 
 loop-again : tie.Need-loop-again Inv-loop μ-loop
 loop-again c =
-    let kept = c .before .before .before .before .before .before .before .before .before .before .before .before .serve-piece .kept in
-    let same = c .before .before .before .before .before .before .before .before .before .before .before .before .before .before .before .before .before .before .before .before .before .loop .inv in
-    (search needs, search needs, kept .1 .1 .0 ∙ same .2, kept .1 .1 .1 .0 ∙ same .3, kept .1 .1 .1 .1 .0 ∙ same .4, kept .1 .1 .1 .1 .1 .0 ∙ same .5)
+    let kept = c .before .before .before .before .before .before .before .before .before .before .before .before .before .before .before .serve .kept in
+    let same = c .before .before .before .before .before .before .before .before .before .before .before .before .before .before .before .before .before .before .before .before .before .before .before .loop .inv in
+    (search needs, kept .1 .1 .0 ∙ same .1, kept .1 .1 .1 .0 ∙ same .2, kept .1 .1 .1 .1 .0 ∙ same .3, kept .1 .1 .1 .1 .1 .0 ∙ same .4)
 
 finish-requires : tie.Need-finish-requires Inv-loop μ-loop
 finish-requires c κs = search needs
@@ -89,10 +100,14 @@ serve-pieces-spec =
     start-requires
     loop-holds
     piece-end-requires
-    sub-serve-piece
-    part-serve-piece-start
-    part-serve-piece-end
-    serve-piece-requires
+    sub-serve
+    part-serve-start
+    part-serve-end
+    serve-requires
+    sub-write-all
+    part-write-all-start
+    part-write-all-end
+    write-all-requires
     same-length
     same-length-2
     same-length-3

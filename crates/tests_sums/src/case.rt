@@ -1,4 +1,4 @@
-// Runs one case of the sums' vectors.
+// One case: a line that asks for a sum, and the line that answers it.
 use checks::Number;
 use reports::Sum;
 ghost use Prim.Native.Nat.{_≤_, _<_};
@@ -62,27 +62,8 @@ fn sum<'a>(asked: Asked, xl: &'a [u64], yl: &'a [u64], target: &mut [u64]) -> Su
     sums::reround(mode, x, xl, p, target)
 }
 
-// The sum into the target, and its answer.
-fn run_sum<'a>(
-    asked: Asked,
-    xl: &'a [u64; 80],
-    n: usize,
-    yl: &'a [u64; 80],
-    m: usize,
-    target: &mut [u64],
-    out: &mut [u8; 4096],
-) -> usize
-    requires { ⌜ (n ≤ 80) × (m ≤ 80) ⌝ }
-    ensures { λ r. ⌜ r ≤ 4096 ⌝ }
-{
-    let xs = &xl[..];
-    let ys = &yl[..];
-    let s = sum(asked, &xs[0..n], &ys[0..m], target);
-    answer(s, target, out)
-}
-
-// The same with the first k limbs of the target; no answer where there are not so many.
-fn run_part<'a>(
+// The sum into the first k limbs of the target, and its answer; none where there are not so many.
+fn run_asked<'a>(
     asked: Asked,
     xl: &'a [u64; 80],
     n: usize,
@@ -98,12 +79,15 @@ fn run_part<'a>(
     if target.len() < k {
         return 0;
     }
-    run_sum(asked, xl, n, yl, m, &mut target[0..k], out)
+    let xs = &xl[..];
+    let ys = &yl[..];
+    let s = sum(asked, &xs[0..n], &ys[0..m], &mut target[0..k]);
+    answer(s, &target[0..k], out)
 }
 
 // A line asks by operation (2), mode (2), target precision (16), target limb count (4), fill (2), then the two numbers.
 // The answer's fields as one line of the output; how long it is, its end included.
-pub fn run_case(line: &[u8], out: &mut [u8; 4096]) -> usize
+pub(crate) fn run_case(line: &[u8], out: &mut [u8; 4096]) -> usize
     ensures { λ r. ⌜ r ≤ 4096 ⌝ }
 {
     let mut xl = [0u64; 80];
@@ -122,5 +106,5 @@ pub fn run_case(line: &[u8], out: &mut [u8; 4096]) -> usize
         x: x,
         y: y,
     };
-    run_part(asked, &xl, n, &yl, m, &mut target, k, out)
+    run_asked(asked, &xl, n, &yl, m, &mut target, k, out)
 }
