@@ -1,4 +1,5 @@
 // The columns below the guard, of which only this is kept: none, all zeros, all ones, or neither.
+ghost use Rattle.walk.specs.declared.change.Change.the-variants.{Rise, Fall};
 ghost use Rattle.walk.specs.Tail.{LongerTail, PassesTail};
 use crate::change::Change;
 use crate::state::Tail;
@@ -37,7 +38,67 @@ pub struct TailPassed {
     pub up: Change,
 }
 
-// One column more below a tail: only a tail of ones passes a carry on, and only a tail of zeros a borrow.
+// One column more below a tail that rises: only a tail of ones passes the carry on.
+fn raise_tail(tail: Tail, low: u64) -> TailPassed
+    ensures { λ r. ⌜ PassesTail Rise tail low (r .up) (r .tail) ⌝ }
+{
+    match tail {
+        Tail::Empty => {
+            let next = longer(Tail::Empty, low);
+            TailPassed {
+                tail: next,
+                up: Change::Rise,
+            }
+        },
+        Tail::Ones => {
+            let next = longer(Tail::Zeros, low);
+            TailPassed {
+                tail: next,
+                up: Change::Rise,
+            }
+        },
+        Tail::Zeros => TailPassed {
+            tail: Tail::Mixed,
+            up: Change::Stay,
+        },
+        Tail::Mixed => TailPassed {
+            tail: Tail::Mixed,
+            up: Change::Stay,
+        },
+    }
+}
+
+// One column more below a tail that falls: only a tail of zeros passes the borrow on.
+fn lower_tail(tail: Tail, low: u64) -> TailPassed
+    ensures { λ r. ⌜ PassesTail Fall tail low (r .up) (r .tail) ⌝ }
+{
+    match tail {
+        Tail::Empty => {
+            let next = longer(Tail::Empty, low);
+            TailPassed {
+                tail: next,
+                up: Change::Fall,
+            }
+        },
+        Tail::Zeros => {
+            let next = longer(Tail::Ones, low);
+            TailPassed {
+                tail: next,
+                up: Change::Fall,
+            }
+        },
+        Tail::Ones => TailPassed {
+            tail: Tail::Mixed,
+            up: Change::Stay,
+        },
+        Tail::Mixed => TailPassed {
+            tail: Tail::Mixed,
+            up: Change::Stay,
+        },
+    }
+}
+
+// One column more below a tail, changed or not.
 pub fn pass_tail(tail: Tail, low: u64, change: Change) -> TailPassed
     ensures { λ r. ⌜ PassesTail change tail low (r .up) (r .tail) ⌝ }
 {
@@ -49,53 +110,7 @@ pub fn pass_tail(tail: Tail, low: u64, change: Change) -> TailPassed
                 up: Change::Stay,
             }
         },
-        Change::Rise => match tail {
-            Tail::Empty => {
-                let next = longer(Tail::Empty, low);
-                TailPassed {
-                    tail: next,
-                    up: Change::Rise,
-                }
-            },
-            Tail::Ones => {
-                let next = longer(Tail::Zeros, low);
-                TailPassed {
-                    tail: next,
-                    up: Change::Rise,
-                }
-            },
-            Tail::Zeros => TailPassed {
-                tail: Tail::Mixed,
-                up: Change::Stay,
-            },
-            Tail::Mixed => TailPassed {
-                tail: Tail::Mixed,
-                up: Change::Stay,
-            },
-        },
-        Change::Fall => match tail {
-            Tail::Empty => {
-                let next = longer(Tail::Empty, low);
-                TailPassed {
-                    tail: next,
-                    up: Change::Fall,
-                }
-            },
-            Tail::Zeros => {
-                let next = longer(Tail::Ones, low);
-                TailPassed {
-                    tail: next,
-                    up: Change::Fall,
-                }
-            },
-            Tail::Ones => TailPassed {
-                tail: Tail::Mixed,
-                up: Change::Stay,
-            },
-            Tail::Mixed => TailPassed {
-                tail: Tail::Mixed,
-                up: Change::Stay,
-            },
-        },
+        Change::Rise => raise_tail(tail, low),
+        Change::Fall => lower_tail(tail, low),
     }
 }
