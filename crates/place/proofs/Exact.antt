@@ -11,11 +11,11 @@ use lib.ListN.{length, getD}
 use lib.Pow.{pow-pos, pow-add}
 use Rattle.limb.specs.Carry.{bit}
 use Rattle.limb.specs.Value.{valueOf, Below}
-use Rattle.rounding.specs.Mode.{Way, modeOf, way}
+use Rattle.rounding.specs.Mode.{modeOf, way}
 use Rattle.location.specs.declared.Location.the-variants.{Exact}
-use Rattle.location.specs.Location.{locationOf, goesUp}
+use Rattle.location.specs.Location.{locationOf}
 use Rattle.location.proofs.Locating.{at-nothing}
-use Rattle.location.proofs.Modes.{exact-ternary}
+use Rattle.location.proofs.Modes.{exact-up, exact-ternary}
 use Rattle.kept.specs.Walk.{whole, Reaches, Holds}
 use Rattle.kept.proofs.Reaching.{headed-false, rest-low}
 use Rattle.kept.proofs.Unit.{stays}
@@ -26,11 +26,6 @@ use Rattle.place.specs.InRange.{Settled}
 use Rattle.place.proofs.Answer.{placed}
 use Rattle.place.proofs.Rules.{Passed, passed}
 
--- no way adds a unit to what is exact
-not-raised : (w : Way) (odd : Bool) → false ≡ goesUp w Exact odd
-unfolding goesUp
-not-raised w odd = refl
-
 module _ (p unit : ℕ) (t : List ℕ) (d s : ℕ) (pass : runRule p false t unit ≡ 0) (s-is : s ≡ 64 * length t - p) (reach : Reaches false t d) (clean : valueOf t % 2 ^ s ≡ 0) where
   ok : Passed p false t unit
   ok = passed p false t unit pass
@@ -38,7 +33,7 @@ module _ (p unit : ℕ) (t : List ℕ) (d s : ℕ) (pass : runRule p false t uni
   spare-few : s < 64
   spare-few = omega (arith, ok .spare-few)
 
-  -- the run's digits come after 64 - d zeros, and the last s + 64 of it are 0
+  -- the run begins with 64 - d zeros, and its last s + 64 digits are 0
   none-below : whole false t 0 % 2 ^ (d + s) ≡ 0
   unfolding whole
   none-below =
@@ -64,6 +59,6 @@ module _ (p unit : ℕ) (t : List ℕ) (d s : ℕ) (pass : runRule p false t uni
     pub exact : (mode : ℕ) (negative : Bool) → (r ≡ roundedPlaced mode p negative unit false t 0 false) × (after ≡ roundedLimbs mode p negative unit false t 0 false)
     exact mode negative =
         placed mode p negative unit false t 0 false d s pass s-is (pow-pos 64) reach Exact cut (eqb (valueOf cut / 2 ^ s % 2) 1) false cut false r after (pos 0) e
-        located holds refl (not-raised (way (modeOf mode) negative) _)
+        located holds refl (exact-up (way (modeOf mode) negative) Exact _ refl)
         (stays cut s (lt-of-lt-of-le (ok .some-limbs) (le-of-eq (sym (holds .size)))) spare-few limbs cut-clean) limbs
         (e-is ∙ sym (add-zero _)) (exact-ternary negative Exact false refl) end
