@@ -22,7 +22,7 @@ use Rattle.bridge.proofs.Read.{read-lead}
 use Rattle.bridge.proofs.Covered.{columns-above}
 use Rattle.descent.specs.Ready.{Room}
 use Rattle.ending.proofs.RegularEnd.{deep-enough}
-use Rattle.wide.specs.Filling.{Holding}
+use Rattle.wide.specs.Filling.{Holding, Offered}
 use Rattle.wide.proofs.GuardBelow.{read-held, leads-held}
 
 pub one-limb : (p : ℕ) → 1 ≡ limbsFor p → p ≤ 64
@@ -38,22 +38,17 @@ neither true b e = absurd (true≢false e)
 neither false b e = (refl, e)
 
 -- a list of one limb
-pub one-top : (l : List ℕ) → length l ≡ 1 → getD l 0 0 ≡ getD l (length l - 1) 0
-one-top l e = ap (λ (m : ℕ). getD l m 0) (let z : 0 ≡ length l - 1 = omega arith in z)
-
 single : (l : List ℕ) → length l ≡ 1 → l ≡ getD l 0 0 ∷ []
 single [] e = absurd (omega arith)
 single (a ∷ []) e = refl
 single (a ∷ b ∷ l) e = absurd (omega arith)
 
-pub chosen-single : (s : Bool) (xl yl : List ℕ) (m : ℕ) → length xl ≡ 1 → length yl ≡ 1 → m ≡ cond s (getD yl 0 0) (getD xl 0 0) → cond s yl xl ≡ m ∷ []
-chosen-single true xl yl m e f g = single yl f ∙ ap (λ (k : ℕ). k ∷ []) (sym g)
-chosen-single false xl yl m e f g = single xl e ∙ ap (λ (k : ℕ). k ∷ []) (sym g)
-
 -- two operands in order, by their limbs
-pub held-limbs : (s : Bool) (z w : Operand) (pair : Pair) (xl yl : List ℕ) (m n : ℕ) → length xl ≡ 1 → length yl ≡ 1 → m ≡ cond s (getD yl 0 0) (getD xl 0 0) → n ≡ cond s (getD xl 0 0) (getD yl 0 0)
-    → Holding z w pair (cond s yl xl) (cond s xl yl) → Holding z w pair (m ∷ []) (n ∷ [])
-held-limbs s z w pair xl yl m n e f g i h = subst (λ (l : List ℕ). Holding z w pair l (n ∷ [])) (chosen-single s xl yl m e f g) (subst (Holding z w pair (cond s yl xl)) (chosen-single s yl xl n f e i) h)
+pub held-limbs : {z w : Operand} {pair : Pair} (a b : List ℕ) → length a ≡ 1 → length b ≡ 1 → Holding z w pair a b → Holding z w pair (getD a 0 0 ∷ []) (getD b 0 0 ∷ [])
+held-limbs a b e f h = record { course = h .course; regular = h .regular; pair-is = h .pair-is; first-is = sym (single a e) ∙ h .first-is; second-is = sym (single b f) ∙ h .second-is }
+
+pub offered-limbs : {pair : Pair} (a b : List ℕ) → length a ≡ 1 → length b ≡ 1 → Offered pair a b → Offered pair (getD a 0 0 ∷ []) (getD b 0 0 ∷ [])
+offered-limbs a b e f o = record { larger = o .larger; other = o .other; holding = held-limbs a b e f (o .holding) }
 
 -- a limb that begins gap digits below the top ends in the second column
 pub read-two : (gap v : ℕ) → gap < 64 → readTo 2 gap (v ∷ []) ≡ v * 2 ^ (64 - gap)

@@ -41,6 +41,13 @@ fn is_near(pair: Pair, first: usize, second: usize, n: usize) -> bool
     (first == n) & (second == n) & (0 < pair.gap) & (pair.gap < 64)
 }
 
+// Whether two operands have one limb each, and the target three or more.
+fn is_short(m: usize, k: usize, n: usize) -> bool
+    ensures { λ r. ⌜ (r ≡ true → (m ≡ 1) × (k ≡ 1) × (2 < n)) ⌝ }
+{
+    (m == 1) & (k == 1) & (2 < n)
+}
+
 // The same with the counts exchanged, where so said.
 fn exchanged_if(swapped: bool, r: Wide) -> Wide
     ensures { λ s. ⌜ (s .open ≡ r .open) × (s .negative ≡ r .negative) × (s .placed ≡ r .placed) × (s .depth ≡ r .depth) × (s .first ≡ cond swapped (r .second) (r .first)) × (s .second ≡ cond swapped (r .first) (r .second)) ⌝ }
@@ -120,6 +127,9 @@ fn read_in_order(
     if is_far(p, pair, first.len(), target.len()) {
         return far::attempt(mode, negative, p, pair, swapped, first, second, target);
     }
+    if is_short(first.len(), second.len(), target.len()) {
+        return short::attempt(mode, negative, p, pair, swapped, first, second, target);
+    }
     round_filled(mode, negative, p, pair, swapped, first, second, target)
 }
 
@@ -176,32 +186,6 @@ fn add_regular<'a>(
     read_as_said(mode, negative, p, pair, swapped, xl, yl, target)
 }
 
-// Whether two operands have one limb each, and the target three or more.
-fn is_short(m: usize, k: usize, n: usize) -> bool
-    ensures { λ r. ⌜ (r ≡ true → (m ≡ 1) × (k ≡ 1) × (2 < n)) ⌝ }
-{
-    (m == 1) & (k == 1) & (2 < n)
-}
-
-// Adds two regular numbers that are not aligned.
-fn add_apart<'a>(
-    mode: u8,
-    x: Number,
-    xl: &'a [u64],
-    y: Number,
-    yl: &'a [u64],
-    p: u64,
-    target: &mut [u64],
-) -> Wide
-    requires { ⌜ WellFormed (operandOf x (now xl)) × (operandOf x (now xl) .isZero ≡ false) × WellFormed (operandOf y (now yl)) × (operandOf y (now yl) .isZero ≡ false) × Room p (length (now target)) ⌝ }
-    ensures { λ r. ⌜ (length (now (target .exit)) ≡ length (now (target .entry))) × (r .open ≡ false → Attempted (modeOf mode) p (operandOf x (now (xl .entry))) (operandOf y (now (yl .entry))) (now (target .exit)) (r .negative) (r .placed) (r .depth) (r .first) (r .second)) ⌝ }
-{
-    if is_short(xl.len(), yl.len(), target.len()) {
-        return short::attempt(mode, x, xl, y, yl, p, target);
-    }
-    add_regular(mode, x, xl, y, yl, p, target)
-}
-
 // Adds two numbers, where the columns that fill the target, or one more, fix the answer. Where one is zero it is left open.
 pub fn attempt<'a>(
     mode: u8,
@@ -224,5 +208,5 @@ pub fn attempt<'a>(
     if is_aligned(x, xl.len(), y, yl.len(), target.len()) {
         return aligned::attempt(mode, x, xl, y, yl, p, target);
     }
-    add_apart(mode, x, xl, y, yl, p, target)
+    add_regular(mode, x, xl, y, yl, p, target)
 }

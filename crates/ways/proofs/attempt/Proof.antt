@@ -36,8 +36,8 @@ same-length c = search needs
 returns-3 : tie.Need-returns-3
 returns-3 c = search needs
 
-add-apart-requires : tie.Need-add-apart-requires
-add-apart-requires c κs = (c .before .before .before .before .before .before .before .before .before .before .pre .0, kind-told (c .before .before .before .before .before .before .before .before .before .before .args .x) (c .before .before .before .before .before .before .before .before .before .before .args .xl .now) (c .before .before .before .before .before .before .is-zero .ensures) (c .before .before .before .before .before .if1 .left), c .before .before .before .before .before .before .before .before .before .before .pre .1, kind-told (c .before .before .before .before .before .before .before .before .before .before .args .y) (c .before .before .before .before .before .before .before .before .before .before .args .yl .now) (c .before .before .before .before .is-zero2 .ensures) (c .before .before .before .if2 .left), c .before .before .before .before .before .before .before .before .before .before .pre .2)
+add-regular-requires : tie.Need-add-regular-requires
+add-regular-requires c κs = (c .before .before .before .before .before .before .before .before .before .before .pre .0, kind-told (c .before .before .before .before .before .before .before .before .before .before .args .x) (c .before .before .before .before .before .before .before .before .before .before .args .xl .now) (c .before .before .before .before .before .before .is-zero .ensures) (c .before .before .before .before .before .if1 .left), c .before .before .before .before .before .before .before .before .before .before .pre .1, kind-told (c .before .before .before .before .before .before .before .before .before .before .args .y) (c .before .before .before .before .before .before .before .before .before .before .args .yl .now) (c .before .before .before .before .is-zero2 .ensures) (c .before .before .before .if2 .left), c .before .before .before .before .before .before .before .before .before .before .pre .2)
 
 same-length-2 : tie.Need-same-length-2
 same-length-2 c = search needs
@@ -46,4 +46,4 @@ returns-4 : tie.Need-returns-4
 returns-4 c = search needs
 
 pub attempt-spec : {M : Type 1} → statement M
-attempt-spec = tie.close (tie.spec is-zero-requires nothing-requires returns is-zero-requires-2 nothing-requires-2 returns-2 is-aligned-requires attempt-requires same-length returns-3 add-apart-requires same-length-2 returns-4)
+attempt-spec = tie.close (tie.spec is-zero-requires nothing-requires returns is-zero-requires-2 nothing-requires-2 returns-2 is-aligned-requires attempt-requires same-length returns-3 add-regular-requires same-length-2 returns-4)

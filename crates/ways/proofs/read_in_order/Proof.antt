@@ -32,8 +32,11 @@ same-length-2 c = search needs
 returns-2 : tie.Need-returns-2
 returns-2 c = search needs
 
-round-filled-requires : tie.Need-round-filled-requires
-round-filled-requires c κs = search needs
+is-short-requires : tie.Need-is-short-requires
+is-short-requires c κs = search needs
+
+attempt-requires-3 : tie.Need-attempt-requires-3
+attempt-requires-3 c κs = let t = c .before .before .is-short .ensures (c .before .if3 .taken) in (c .before .before .before .before .before .before .before .before .before .before .pre .0, c .before .before .before .before .before .before .before .before .before .before .pre .1, t .0, t .1, t .2)
 
 same-length-3 : tie.Need-same-length-3
 same-length-3 c = search needs
@@ -41,5 +44,14 @@ same-length-3 c = search needs
 returns-3 : tie.Need-returns-3
 returns-3 c = search needs
 
+round-filled-requires : tie.Need-round-filled-requires
+round-filled-requires c κs = search needs
+
+same-length-4 : tie.Need-same-length-4
+same-length-4 c = search needs
+
+returns-4 : tie.Need-returns-4
+returns-4 c = search needs
+
 pub read-in-order-spec : {M : Type 1} → statement M
-read-in-order-spec = tie.close (tie.spec is-near-requires attempt-requires exchanged-if-requires same-length returns is-far-requires attempt-requires-2 same-length-2 returns-2 round-filled-requires same-length-3 returns-3)
+read-in-order-spec = tie.close (tie.spec is-near-requires attempt-requires exchanged-if-requires same-length returns is-far-requires attempt-requires-2 same-length-2 returns-2 is-short-requires attempt-requires-3 same-length-3 returns-3 round-filled-requires same-length-4 returns-4)
