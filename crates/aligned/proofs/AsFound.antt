@@ -20,8 +20,9 @@ use Rattle.descent.specs.Ready.{Room}
 use Rattle.descent.proofs.AtOnce.{some-of}
 use Rattle.wide.specs.Attempted.{Attempted}
 use Rattle.wide.proofs.InOrder.{attempted-told}
-use Rattle.aligned.specs.Aligned.{Aligned, Alike, Reducible, Subtracted, Standing}
+use Rattle.aligned.specs.Aligned.{Aligned, Cancelling, Alike, Reducible, Subtracted, Standing}
 use Rattle.aligned.proofs.Parting.{Parted}
+use Rattle.aligned.proofs.Cancels.{all-alike}
 use Rattle.aligned.proofs.Clean.{none-below}
 use Rattle.aligned.proofs.Stands.{standing-sum, standing-difference, parted, sign-told, reducible}
 
@@ -43,6 +44,10 @@ aligned-told x xl y yl n g r h s e i j = record { first = g; second = h; first-r
 pub exponent-told : (x : Number) (xl : List ℕ) (top : ℕ) → top ≡ counted (x .exponent) → top ≡ operandOf x xl .exponent
 unfolding operandOf
 exponent-told x xl top e = e
+
+pub sign-is : (x : Number) (xl : List ℕ) → x .negative ≡ operandOf x xl .negative
+unfolding operandOf
+sign-is x xl = refl
 
 pub top-modest : (x y : Operand) (n top : ℕ) → Aligned x y n → top ≡ x .exponent → top ≤ 2 ^ 42
 unfolding mostExponent bias
@@ -72,9 +77,10 @@ module _ (p : ℕ) (x : Number) (xl : List ℕ) (y : Number) (yl : List ℕ) (be
   sum-stands {t} {carry} e like high d below =
       standing-sum p X Y t carry top (subst (Room p) (sym (d .size)) room) (subst (Aligned X Y) (sym (d .size)) a) like e high below (rw (d .size) (d .value))
 
-  pub sign-first : x .negative ≡ X .negative
+  -- all limbs are alike
+  pub cancels-told : (z : ℕ) → Alike xl yl z → z ≡ length before → Bool·beq (x .negative) (y .negative) ≡ false → Cancelling X Y (length before)
   unfolding operandOf
-  sign-first = refl
+  cancels-told z same e unlike = record { aligned = a; unlike = unlike; level = all-alike xl yl (length before) z first-many same e }
 
   module _ (z : ℕ) (same : Alike xl yl z) (some : z ≡ length before → ⊥) where
     pub within-runs : z < length xl

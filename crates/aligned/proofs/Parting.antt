@@ -69,6 +69,10 @@ module _ (x y : Operand) (n : ℕ) (a : Aligned x y n) where
   second-all : readTo n (pairOf x y .gap) (y .limbs) ≡ Y
   second-all = rw (no-gap x y n a) (read-all (y .limbs) (a .second .limb) n (a .second-limbs))
 
+  -- limbs of one value are alike in every column
+  pub read-level : Y ≡ X → readTo n 0 (y .limbs) ≡ readTo n 0 (x .limbs)
+  read-level e = read-all (y .limbs) (a .second .limb) n (a .second-limbs) ∙ e ∙ sym first-all
+
   pub same-told : Bool·beq (x .negative) (y .negative) ≡ true → pairOf x y .same ≡ true
   same-told e = pair-same x y (a .second-regular) ∙ e
 

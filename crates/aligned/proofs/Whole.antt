@@ -35,6 +35,13 @@ use Rattle.wide.specs.Attempted.{Attempted}
 use Rattle.aligned.specs.Aligned.{Aligned, Standing}
 use Rattle.aligned.proofs.AllRead.{some, limbs-few, near, leads-all, fixed, answer, first}
 
+-- n columns use n limbs of an operand that begins at the top
+pub used : (w : Operand) (n : ℕ) → 0 < n → length (w .limbs) ≡ n → n ≡ usedOf n 0 (length (w .limbs))
+used w n h e = rw e (used-all n 0 n (omega arith) (whole n))
+  where
+    whole : (m : ℕ) → m ≤ (64 * m - 0 + 63) / 64
+    whole m = omega arith
+
 module _ (mode p : ℕ) (x y : Operand) (t : List ℕ) (carry : Bool) (z top : ℕ) (s : Standing p x y t carry z top) where
   abbrev o : Mode
   o = modeOf mode
@@ -106,12 +113,6 @@ module _ (mode p : ℕ) (x y : Operand) (t : List ℕ) (carry : Bool) (z top : �
       place : (e m : ℕ) → e - 64 * m - 64 * (z + 1) ≡ e - 64 * (m + z + 1)
       place e m = omega arith
 
-  used : (w : Operand) → length (w .limbs) ≡ n → n ≡ usedOf n 0 (length (w .limbs))
-  used w e = rw e (used-all n 0 n (omega (arith, s .within)) (whole n))
-    where
-      whole : (m : ℕ) → m ≤ (64 * m - 0 + 63) / 64
-      whole m = omega arith
-
   module _ (negative : Bool) (sign : negative ≡ x .negative) where
     rounds : runAnswer mode p negative unit (runNumber carry t 0 false) ≡ add o p x y
     unfolding runAnswer
@@ -125,8 +126,8 @@ module _ (mode p : ℕ) (x y : Operand) (t : List ℕ) (carry : Bool) (z top : �
           bounded = near o p x y t carry z top s;
           left = record { told = e ∙ placed-passed mode p negative unit carry t 0 false fit ∙ ap placedOf rounds; limbs = f ∙ limbs-passed mode p negative unit carry t 0 false fit ∙ ap (limbsAfter p) rounds };
           signed = rw (sign, sum-is) (rounded-signed _ _ _ _ _);
-          first-used = used x (a .first-limbs) ∙ used-is x (topExponent x y) n 0 (a .first) (a .first-regular) (rw top-told (apart (x .exponent) (x .exponent) refl));
-          second-used = used y (a .second-limbs) ∙ used-is y (topExponent x y) n 0 (a .second) (a .second-regular) (rw top-told (apart (x .exponent) (y .exponent) (a .even)));
+          first-used = used x n (omega (arith, s .within)) (a .first-limbs) ∙ used-is x (topExponent x y) n 0 (a .first) (a .first-regular) (rw top-told (apart (x .exponent) (x .exponent) refl));
+          second-used = used y n (omega (arith, s .within)) (a .second-limbs) ∙ used-is y (topExponent x y) n 0 (a .second) (a .second-regular) (rw top-told (apart (x .exponent) (y .exponent) (a .even)));
         }
       where
         apart : (m i : ℕ) → i ≡ m → 0 ≡ m - i

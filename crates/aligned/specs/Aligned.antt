@@ -1,7 +1,7 @@
 -- Two numbers of one exponent that have as many limbs as the target. Definitions only.
 use Prim.Native.Nat.{ℕ, _+_, _-_, _*_, _^_, _≤_, _<_}
 use mathlib.Core.Path.{_≡_}
-use mathlib.Core.Bool.{Bool, true, false}
+use mathlib.Core.Bool.{Bool, true, false, Bool·beq}
 use mathlib.Core.List.{List}
 use lib.Dec.{ltb}
 use lib.ListN.{length, take, drop, getD}
@@ -22,6 +22,12 @@ pub record Aligned (x y : Operand) (n : ℕ) : Type 0 where
   pub even : y .exponent ≡ x .exponent
   pub first-limbs : length (x .limbs) ≡ n
   pub second-limbs : length (y .limbs) ≡ n
+
+-- two such operands of unlike signs, of which all limbs are alike
+pub record Cancelling (x y : Operand) (n : ℕ) : Type 0 where
+  pub aligned : Aligned x y n
+  pub unlike : Bool·beq (x .negative) (y .negative) ≡ false
+  pub level : valueOf (y .limbs) ≡ valueOf (x .limbs)
 
 -- of two runs of one length z limbs at the top are alike, and no more
 pub record Alike (a b : List ℕ) (z : ℕ) : Type 0 where

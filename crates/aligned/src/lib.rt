@@ -17,9 +17,10 @@ ghost use Rattle.checks.specs.Number.{operandOf};
 ghost use Rattle.place.specs.Placed.{runRule};
 ghost use Rattle.descent.specs.Ready.{Room};
 ghost use Rattle.wide.specs.Attempted.{Attempted};
-ghost use Rattle.aligned.specs.Aligned.{Aligned, Alike, Reducible, Subtracted, Standing};
+ghost use Rattle.aligned.specs.Aligned.{Aligned, Cancelling, Alike, Reducible, Subtracted, Standing};
 use checks::Number;
 use choice::either_run;
+use place::Placed;
 use wide::Wide;
 use wide::nothing;
 
@@ -120,7 +121,28 @@ fn settle_whole(negative: bool, skipped: u64, top: u64, p: u64, target: &mut [u6
     }
 }
 
-// Two operands of unlike signs. Left open where a refusal is near, where no limbs differ, and where a borrow empties the target's top limb.
+// All limbs are alike: a zero, with no limb left unread.
+fn cancelled(mode: u8, a: bool, b: bool, target: &mut [u64]) -> Wide
+    ensures { λ r. ⌜ (length (now (target .exit)) ≡ length (now (target .entry))) × ((p : ℕ) (x y : Operand) → Room p (length (now (target .entry))) → Cancelling x y (length (now (target .entry))) → a ≡ x .negative → b ≡ y .negative → Attempted (modeOf mode) p x y (now (target .exit)) (r .negative) (r .placed) (r .depth) (r .first) (r .second)) ⌝ }
+{
+    let n = target.len() as u64;
+    parts::clear(target);
+    let placed = Placed {
+        rule: 0,
+        exponent: 0,
+        ternary: 0,
+    };
+    Wide {
+        open: false,
+        negative: reports::zero_sign(mode, a, b),
+        placed: placed,
+        depth: n,
+        first: n,
+        second: n,
+    }
+}
+
+// Two operands of unlike signs. Left open where a refusal is near, and where a borrow empties the target's top limb.
 fn subtract<'a>(
     mode: u8,
     x: Number,
@@ -140,7 +162,7 @@ fn subtract<'a>(
     }
     let z = alike(xl, yl);
     if z == n {
-        return nothing();
+        return cancelled(mode, x.negative, y.negative, target);
     }
     let swapped = is_second_larger(xl, yl, z);
     subtract_in_order(target, z, swapped, xl, yl);

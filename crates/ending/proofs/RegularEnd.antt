@@ -7,13 +7,14 @@ use Prim.Native.Nat.{ℕ, suc, _+_, _-_, _*_, _/_, _^_, _≤_, _<_, Ordering, co
 use native.Mathlib.Numerals.{add-one}
 use native.Mathlib.Nat.{le-trans}
 use native.Mathlib.Omega.{arith}
+use borrow.Author.Tests.{ltb-false}
 use lib.Dec.{ltb}
 use lib.ListN.{length, replicate}
 use lib.Ieee.{size}
 use Rattle.bridge.proofs.Told.{pair-top}
 use Rattle.descent.proofs.JudgingRange.{digits-some}
 use Rattle.limb.specs.Carry.{bit}
-use Rattle.numbers.specs.Limits.{mostPrecision, leastExponent, mostExponent, limbsFor}
+use Rattle.numbers.specs.Limits.{bias, mostPrecision, leastExponent, mostExponent, limbsFor}
 use Rattle.numbers.specs.Operand.{Operand}
 use Rattle.rounding.specs.Mode.{Mode, Way, modeOf, way}
 use Rattle.rounding.specs.Select.{chosen}
@@ -57,16 +58,21 @@ room-few : (p n : ℕ) → Room p n → n ≤ 64
 unfolding mostPrecision limbsFor
 room-few p n r = let a : p ≤ 4096 = r .most in let b : n ≡ (p + 63) / 64 = r .count in omega arith
 
+-- an exponent in range is counted, and not 0
+in-range : (e : ℕ) → ltb e leastExponent ≡ false → 0 < e
+unfolding leastExponent bias
+in-range e h = omega (arith, ltb-false e leastExponent h)
+
 pub rounded-signed : (w : Way) (p s : ℕ) (n : Bool) (m : ℕ) → Signed n (rounded w p s n m)
 unfolding rounded ranged
 rounded-signed w p s n m =
     let c = chosen w p m in
-    go (ltb mostExponent (size c + s)) (ltb (size c + s) leastExponent) (size c + s) (digits p c) (signed n (compare c m))
+    go (ltb mostExponent (size c + s)) (ltb (size c + s) leastExponent) (size c + s) (digits p c) (signed n (compare c m)) refl
   where
-    go : (a b : Bool) (e d : ℕ) (t : Ordering) → Signed n (cond a tooLarge (cond b tooSmall (number n e d t)))
-    go true b e d t = tt
-    go false true e d t = tt
-    go false false e d t = refl
+    go : (a b : Bool) (e d : ℕ) (t : Ordering) → ltb e leastExponent ≡ b → Signed n (cond a tooLarge (cond b tooSmall (number n e d t)))
+    go true b e d t l = tt
+    go false true e d t l = tt
+    go false false e d t l = (refl, in-range e l)
 
 module _ (mode p n : ℕ) (room : Room p n) (x y : Operand) (from : ℕ) (course : Course x y from) (walked : Walked) (t : List ℕ) (st : Stopped (modeOf mode) p x y walked t) where
   abbrev o : Mode

@@ -1,1 +1,1 @@
-pub mod Level
+pub mod Differs

@@ -89,7 +89,7 @@ pub fn exchanged(s: Sum) -> Sum
     }
 }
 
-// The answer as it is reported.
+// The answer as it is reported: a refusal, a zero, which has no counted exponent, or a number.
 pub fn answered(placed: Placed, negative: bool, p: u64, depth: u64, first: u64, second: u64) -> Sum
     ensures { λ r. ⌜ ((a : Answer) → Signed negative a → placed ≡ placedOf a → r ≡ sumOf a p depth first second) ⌝ }
 {
@@ -99,6 +99,9 @@ pub fn answered(placed: Placed, negative: bool, p: u64, depth: u64, first: u64, 
             place: 3,
         };
         return refused(refusal, depth, first, second);
+    }
+    if placed.exponent == 0 {
+        return zero(negative, p, depth, first, second);
     }
     let number = Number {
         negative: negative,

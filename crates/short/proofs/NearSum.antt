@@ -181,6 +181,9 @@ module _ (p : ℕ) (pair : Pair) (u v n : ℕ) (room : Room p n) (long : 2 < n) 
     told : (digits p D ≡ N * 2 ^ (p - 128)) × (size D + s ≡ r .exponent)
     told = written-unique p s D (digits p D) (size D + s) (N * 2 ^ (p - 128)) (r .exponent) some-p (written p s D some-p D-some rep) mine
 
+    exponent-some : 0 < r .exponent
+    exponent-some = omega (arith, size-some D D-some, told .1)
+
     answer : add o p x y ≡ number (x .negative) (r .exponent) (N * 2 ^ (p - 128)) Ordering·eq
     answer = exact-sum o p some-p x y 2 d (omega arith) (omega (arith, above)) (lead 2 (omega arith)) (ends 2 (omega arith) two-end) ∙ accepted w p s (x .negative) D (rw same least) (rw same most) ∙ ap (kept p s (x .negative) D) same ∙ as-number
       where
@@ -221,7 +224,7 @@ module _ (p : ℕ) (pair : Pair) (u v n : ℕ) (room : Room p n) (long : 2 < n) 
             decides = record { zeros = λ e. absurd (true≢false (sym e ∙ rw (d .regular) refl)); deciding = λ e. depth-decided o p some-p x y (d .first) (d .second) k (t .some) (t .fixed) (t .first) };
             bounded = omega (arith, t .most, deep-enough);
             left = left;
-            signed = rw (answer, sign) refl;
+            signed = rw (answer, sign) (refl, exponent-some);
             first-used = t .larger-used ∙ ap (λ (l : List ℕ). usedOf k 0 (length l)) (h .first-is) ∙ used-is x (topExponent x y) k 0 (d .first) (d .regular) (rw top (apart (x .exponent)));
             second-used = t .other-used ∙ ap (λ (l : List ℕ). usedOf k (pair .gap) (length l)) (h .second-is) ∙ used-is y (topExponent x y) k (pair .gap) (d .second) (h .regular) (rw top (ap (λ (q : Pair). q .gap) (h .pair-is) ∙ pair-gap x y (h .regular)));
           }

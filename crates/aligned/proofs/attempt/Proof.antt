@@ -4,7 +4,7 @@ use mathlib.Core.Bool.{true≢false}
 use mir.Facts.{toZ-ofZ}
 use Rattle.descent.proofs.AtOnce.{not-true}
 use Rattle.aligned.proofs.Whole.{asks}
-use Rattle.aligned.proofs.AsFound.{aligned-told, exponent-told, top-modest, sum-stands, sign-first, unlike-is}
+use Rattle.aligned.proofs.AsFound.{aligned-told, exponent-told, top-modest, sum-stands, sign-is, unlike-is}
 use borrow.Author.Needs.{needs}
 use Rattle.aligned.proofs.attempt.Statement.{statement}
 use Rattle.aligned.proofs.attempt.Tie as tie
@@ -54,7 +54,7 @@ returns-3 c =
     let s = c .before .before .before .before .before .before .before .before .before .before .before .before .before .before .before .before .before .before in
     let top = exponent-told (s .args .x) (s .args .xl .now) _ (rw (toZ-ofZ (record { sfits = c .before .before .before .before .before .before .before .before .before .before .before .before .before .before .struct-told .given .1 .1 .1 .0 .1 })) at (c .before .before .before .before .before .before .before .before .before .before .before .before .before .counted-exponent .ensures)) in
     let a = aligned-told (s .args .x) (s .args .xl .now) (s .args .y) (s .args .yl .now) _ (s .pre .0) (s .pre .1) (s .pre .2) (s .pre .3) (s .pre .4) (s .pre .5) (s .pre .6) in
-    (c .before .target3 .given ∙ c .before .before .before .before .before .target2 .given, λ e. c .before .before .round-whole .ensures .2 _ _ (sum-stands (s .args .p) (s .args .x) (s .args .xl .now) (s .args .y) (s .args .yl .now) (s .args .target .now) _ (s .pre .7) a top (not-true _ (c .before .before .before .before .before .before .before .before .before .before .if1 .left)) (sym (c .before .before .before .before .before .before .before .before .before .is-high .ensures) ∙ c .before .before .before .before .before .before .before .before .if2 .left) (c .before .before .before .before .before .before .sum .ensures) (λ i. c .before .before .before .before .slice-known3 .given i .fits)) (sign-first (s .args .p) (s .args .x) (s .args .xl .now) (s .args .y) (s .args .yl .now) (s .args .target .now) 0 (s .pre .7) a))
+    (c .before .target3 .given ∙ c .before .before .before .before .before .target2 .given, λ e. c .before .before .round-whole .ensures .2 _ _ (sum-stands (s .args .p) (s .args .x) (s .args .xl .now) (s .args .y) (s .args .yl .now) (s .args .target .now) _ (s .pre .7) a top (not-true _ (c .before .before .before .before .before .before .before .before .before .before .if1 .left)) (sym (c .before .before .before .before .before .before .before .before .before .is-high .ensures) ∙ c .before .before .before .before .before .before .before .before .if2 .left) (c .before .before .before .before .before .before .sum .ensures) (λ i. c .before .before .before .before .slice-known3 .given i .fits)) (sign-is (s .args .x) (s .args .xl .now)))
 
 pub attempt-spec : {M : Type 1} → statement M
 attempt-spec =

@@ -16,7 +16,7 @@ use Rattle.descent.proofs.GoingDown.{room-some}
 use Rattle.wide.specs.Attempted.{Attempted}
 use Rattle.aligned.specs.Aligned.{Standing}
 use Rattle.aligned.proofs.Whole.{asks}
-use Rattle.aligned.proofs.AsFound.{top-modest, limbs-modest, as-many, within-runs, reducible-told, difference-stands, difference-clean, difference-told, sign-kept}
+use Rattle.aligned.proofs.AsFound.{top-modest, limbs-modest, as-many, cancels-told, sign-is, within-runs, reducible-told, difference-stands, difference-clean, difference-told, sign-kept}
 use borrow.Author.Needs.{needs}
 use Rattle.aligned.proofs.subtract.Statement.{statement}
 use Rattle.aligned.proofs.subtract.Tie as tie
@@ -36,11 +36,18 @@ returns c = (refl, λ e. absurd (true≢false (sym (c .nothing .ensures) ∙ e))
 alike-requires : tie.Need-alike-requires
 alike-requires c κs = let s = c .before .before .before .before .before in as-many (s .args .p) (s .args .x) (s .args .xl .now) (s .args .y) (s .args .yl .now) (s .args .target .now) (s .args .top) (s .pre .0) (s .pre .1)
 
-nothing-requires-2 : tie.Need-nothing-requires-2
-nothing-requires-2 c κs = search needs
+cancelled-requires : tie.Need-cancelled-requires
+cancelled-requires c κs = search needs
+
+same-length : tie.Need-same-length
+same-length c = search needs
 
 returns-2 : tie.Need-returns-2
-returns-2 c = (refl, λ e. absurd (true≢false (sym (c .nothing2 .ensures) ∙ e)))
+returns-2 c =
+    let s = c .before .before .before .before .before .before .before .before .before .before .before in
+    let r = c .before .before .cancelled in
+    let k = cancels-told (s .args .p) (s .args .x) (s .args .xl .now) (s .args .y) (s .args .yl .now) (s .args .target .now) (s .args .top) (s .pre .0) (s .pre .1) _ (c .before .before .before .before .before .alike .ensures) (c .before .before .before .before .if2 .taken) (s .pre .2) in
+    (r .ensures .0, λ e. r .ensures .1 (s .args .p) _ _ (s .pre .0) k (sign-is (s .args .x) (s .args .xl .now)) (sign-is (s .args .y) (s .args .yl .now)))
 
 is-second-larger-requires : tie.Need-is-second-larger-requires
 is-second-larger-requires c κs = let s = c .before .before .before .before .before .before .before in (within-runs (s .args .p) (s .args .x) (s .args .xl .now) (s .args .y) (s .args .yl .now) (s .args .target .now) (s .args .top) (s .pre .0) (s .pre .1) _ (c .before .alike .ensures) (c .if2 .left), as-many (s .args .p) (s .args .x) (s .args .xl .now) (s .args .y) (s .args .yl .now) (s .args .target .now) (s .args .top) (s .pre .0) (s .pre .1))
@@ -55,16 +62,16 @@ mul-if3 : tie.Need-mul-if3
 mul-if3 c = search needs
 
 slice-read-if3 : tie.Need-slice-read-if3
-slice-read-if3 c = omega (arith, room-some _ _ (c .before .before .before .before .before .before .before .before .before .before .before .before .before .pre .0), c .before .before .target .given)
+slice-read-if3 c = omega (arith, room-some _ _ (c .before .before .before .before .before .before .before .before .before .before .before .before .before .pre .0), c .before .before .target2 .given)
 
-nothing-requires-3 : tie.Need-nothing-requires-3
-nothing-requires-3 c κs = search needs
+nothing-requires-2 : tie.Need-nothing-requires-2
+nothing-requires-2 c κs = search needs
 
-same-length : tie.Need-same-length
-same-length c = search needs
+same-length-2 : tie.Need-same-length-2
+same-length-2 c = search needs
 
 returns-3 : tie.Need-returns-3
-returns-3 c = (c .before .before .before .before .target .given, λ e. absurd (true≢false (sym (c .nothing3 .ensures) ∙ e)))
+returns-3 c = (c .before .before .before .before .target2 .given, λ e. absurd (true≢false (sym (c .nothing2 .ensures) ∙ e)))
 
 -- ---- what stands in the target where its top limb is not 0
 
@@ -116,26 +123,26 @@ settle-whole-requires c κs =
     let few = both-true _ _ (c .before .before .if4 .taken) in
     (ok .0, ok .1, clean k (leb-true _ _ (few .0)) (leb-true _ _ (few .1)))
 
-same-length-2 : tie.Need-same-length-2
-same-length-2 c = search needs
+same-length-3 : tie.Need-same-length-3
+same-length-3 c = search needs
 
 returns-4 : tie.Need-returns-4
 returns-4 c =
     let k = c .before .before .before .before .before .before .before .before in
     let r = c .before .before .settle-whole in
-    (c .before .target2 .given ∙ k .before .before .before .target .given, λ e. told k _ _ _ (r .ensures .1) (r .ensures .2 (start k .args .mode) _ _ (stands k) (signed k)))
+    (c .before .target3 .given ∙ k .before .before .before .target2 .given, λ e. told k _ _ _ (r .ensures .1) (r .ensures .2 (start k .args .mode) _ _ (stands k) (signed k)))
 
 round-whole-requires : tie.Need-round-whole-requires
 round-whole-requires c κs = let k = c .before .before .before .before .before in asks 0 (start k .args .p) _ _ _ _ _ _ (stands k)
 
-same-length-3 : tie.Need-same-length-3
-same-length-3 c = search needs
+same-length-4 : tie.Need-same-length-4
+same-length-4 c = search needs
 
 returns-5 : tie.Need-returns-5
 returns-5 c =
     let k = c .before .before .before .before .before .before .before .before in
     let r = c .before .before .round-whole in
-    (c .before .target3 .given ∙ k .before .before .before .target .given, λ e. told k _ _ _ (r .ensures .1) (r .ensures .2 _ _ (stands k) (signed k)))
+    (c .before .target4 .given ∙ k .before .before .before .target2 .given, λ e. told k _ _ _ (r .ensures .1) (r .ensures .2 _ _ (stands k) (signed k)))
 
 pub subtract-spec : {M : Type 1} → statement M
 subtract-spec =
@@ -145,19 +152,20 @@ subtract-spec =
     nothing-requires
     returns
     alike-requires
-    nothing-requires-2
+    cancelled-requires
+    same-length
     returns-2
     is-second-larger-requires
     subtract-in-order-requires
     sub-if3
     mul-if3
     slice-read-if3
-    nothing-requires-3
-    same-length
+    nothing-requires-2
+    same-length-2
     returns-3
     settle-whole-requires
-    same-length-2
+    same-length-3
     returns-4
     round-whole-requires
-    same-length-3
+    same-length-4
     returns-5)

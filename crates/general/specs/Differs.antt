@@ -1,22 +1,11 @@
--- Where two operands of one exponent differ. Definitions only.
-use Prim.Native.Nat.{ℕ, suc, _-_, _<_, max}
+-- Where two runs of limbs differ. Definitions only.
+use Prim.Native.Nat.{ℕ, suc, _<_, max}
 use mathlib.Core.Path.{_≡_}
-use mathlib.Core.Bool.{false, Bool·beq}
 use mathlib.Core.List.{List}
 use lib.ListN.{length}
-use Rattle.numbers.specs.Operand.{Operand, WellFormed}
 use Rattle.columns.specs.Column.{readTo}
 use Rattle.general.specs.declared.regular.Differ.{Differ}
 use Rattle.general.specs.declared.regular.Differ.the-variants.{Never, First, Second}
-
--- two regular operands of one exponent and unlike signs
-pub record Level (x y : Operand) : Type 0 where
-  pub first : WellFormed x
-  pub second : WellFormed y
-  pub first-regular : x .isZero ≡ false
-  pub second-regular : y .isZero ≡ false
-  pub even : y .exponent ≡ x .exponent
-  pub unlike : Bool·beq (x .negative) (y .negative) ≡ false
 
 -- the first column in which two runs of limbs differ, and which is larger there
 abbrev pub Differs : List ℕ → List ℕ → Differ → Type 0
