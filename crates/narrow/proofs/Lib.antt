@@ -4,5 +4,6 @@ pub mod Rows
 pub mod Settled
 pub mod Passed
 pub mod Tops
+pub mod Kept
 pub mod InOrder
 pub mod Lone

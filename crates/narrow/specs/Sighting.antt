@@ -1,5 +1,5 @@
 -- What the first column of two operands fixes, on the numbers that the code holds of them. Definitions only.
-use Prim.Native.Nat.{ℕ, _-_, _^_, _≤_, _<_}
+use Prim.Native.Nat.{ℕ, _+_, _-_, _^_, _≤_, _<_}
 use mathlib.Core.Path.{_≡_}
 use mathlib.Core.Bool.{true, false}
 use mathlib.Core.List.{List, [], _∷_}
@@ -38,6 +38,12 @@ pub record Facing (p : ℕ) (pair : Pair) (u : ℕ) : Type 0 where
   pub gap : pair .gap ≤ pair .top
   pub low : leastExponent ≤ pair .top
   pub high : pair .top ≤ mostExponent
+
+-- of unlike signs, with all digits of both among the p first of the column: the difference is exact
+pub record AllKept (p : ℕ) (pair : Pair) : Type 0 where
+  pub unlike : pair .same ≡ false
+  pub first : pair .first ≤ p
+  pub second : pair .gap + pair .second ≤ p
 
 -- the first column fixes the answer, which stands in one limb and has the sign of the first operand
 pub record Told (o : Mode) (p : ℕ) (x y : Operand) (limb : ℕ) (placed : Placed) : Type 0 where

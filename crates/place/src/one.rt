@@ -5,14 +5,15 @@
 //           0 0 1 b b b b b b b            none: up, as far as there are zeros
 //
 ghost use mathlib.Core.Path.{_≡_};
-ghost use mathlib.Core.Bool.{false};
+ghost use mathlib.Core.Bool.{Bool, false};
 ghost use mathlib.Core.List.{[], _∷_};
-ghost use Prim.Native.Nat.{_*_, _<_};
+ghost use Prim.Native.Nat.{ℕ, _-_, _*_, _%_, _^_, _<_};
 ghost use Rattle.numbers.specs.Limits.{mostExponent};
 ghost use Rattle.place.specs.Normal.{Normalized};
 ghost use Rattle.place.specs.Placed.{runRule};
 ghost use Rattle.place.specs.Rounded.{roundedPlaced, roundedLimbs};
 use crate::PlacedLimb;
+use crate::limits::settle_limb;
 use crate::round_limb;
 
 // 2^63: the first digit of a limb.
@@ -78,4 +79,13 @@ pub fn round_one(
 {
     let n = normalize(carry, limb, guard, more, unit);
     round_limb(negative, n.limb, n.guard, n.more, n.unit, precision, mode)
+}
+
+// Brings a limb to its top. Where nothing of it lies below the digits kept, it is rounded so under every mode and sign.
+pub fn settle_one(limb: u64, unit: u64, precision: u64) -> PlacedLimb
+    requires { ⌜ runRule precision false (limb ∷ []) unit ≡ 0 ⌝ }
+    ensures { λ r. ⌜ (limb % 2 ^ (64 - precision) ≡ 0 → (mode : ℕ) (negative : Bool) → (r .placed ≡ roundedPlaced mode precision negative unit false (limb ∷ []) 0 false) × (r .limb ∷ [] ≡ roundedLimbs mode precision negative unit false (limb ∷ []) 0 false)) ⌝ }
+{
+    let zeros = u64::leading_zeros(limb) as u64;
+    settle_limb(limb << zeros, unit + 128 - zeros, 0)
 }

@@ -1,49 +1,23 @@
--- `narrow::see` is right since the run of a column that fixes the answer is rounded to it. Assumes nothing.
-use mathlib.Core.Path.{sym, _∙_}
-use mathlib.Core.Bool.{true≢false}
-use borrow.Author.Tests.{not-false}
-use Rattle.narrow.proofs.Passed.{top-high, unit-least, unit-most}
-use Rattle.narrow.proofs.Tops.{run-passes, told}
+-- `narrow::see` is right since an exact difference and any other column both tell the sum. Assumes nothing.
+use Rattle.narrow.proofs.Settled.{sums-fit}
 use borrow.Author.Needs.{needs}
 use Rattle.narrow.proofs.seeing.see.Statement.{statement}
 use Rattle.narrow.proofs.seeing.see.Tie as tie
 
-column-of-requires : tie.Need-column-of-requires
-column-of-requires c κs = search needs
+is-exact-requires : tie.Need-is-exact-requires
+is-exact-requires c κs = sums-fit _ _ _ (c .pre)
 
-nothing-requires : tie.Need-nothing-requires
-nothing-requires c κs = search needs
+see-exact-requires : tie.Need-see-exact-requires
+see-exact-requires c κs = (c .before .before .pre, c .before .is-exact .ensures (c .if1 .taken))
 
 returns : tie.Need-returns
-returns c = (λ e. absurd (true≢false (sym (c .nothing .ensures) ∙ e)), λ e. absurd (true≢false (sym (c .nothing .ensures) ∙ e)))
+returns c = let r = c .see-exact .ensures in (λ e same. r .0 e, λ e x y h sign. r .1 e (c .before .before .before .args .mode) x y h)
 
-sub-round-one : tie.Need-sub-round-one
-sub-round-one c = top-high _ (c .before .before .before .before .pre .low)
-
-round-one-requires : tie.Need-round-one-requires
-round-one-requires c κs =
-    let b = c .before .before .before .before in
-    let a = b .args in
-    let r = c .before .before .before .column-of in
-    let found = r .ensures (not-false (r .result .fixed) (c .before .if1 .left)) in
-    (run-passes (a .p) (a .pair) (a .u) (a .v) (b .pre) (r .result) found, unit-least _ (b .pre .low), unit-most _ (b .pre .high))
+see-column-requires : tie.Need-see-column-requires
+see-column-requires c κs = search needs
 
 returns-2 : tie.Need-returns-2
-returns-2 c =
-    let b = c .before .before .before .before .before .before in
-    let a = b .args in
-    let r = c .before .before .before .before .before .column-of in
-    let found = r .ensures (not-false (r .result .fixed) (c .before .before .before .if1 .left)) in
-    let o = c .before .round-one in
-    (λ e. found .ahead, λ e. told (a .p) (a .pair) (a .u) (a .v) (b .pre) (r .result) found (a .mode) (a .negative) (o .result .limb) (o .result .placed) (o .ensures .0) (o .ensures .1))
+returns-2 c = search needs
 
 pub see-spec : {M : Type 1} → statement M
-see-spec =
-    tie.close
-    (tie.spec
-    column-of-requires
-    nothing-requires
-    returns
-    sub-round-one
-    round-one-requires
-    returns-2)
+see-spec = tie.close (tie.spec is-exact-requires see-exact-requires returns see-column-requires returns-2)
