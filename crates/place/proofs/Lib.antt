@@ -4,4 +4,5 @@ pub mod Rules
 pub mod Finer
 pub mod Normalized
 pub mod Exact
+pub mod Around
 pub mod Examples
