@@ -6,12 +6,13 @@ use mathlib.Core.List.{List}
 use Prim.Native.Nat.{ℕ, suc, _+_, _-_, _*_, _%_, _^_, _≤_, _<_}
 use native.Mathlib.Nat.{lt-of-lt-of-le}
 use native.Mathlib.Omega.{arith}
+use borrow.Author.Tests.{ltb-false}
 use lib.ListN.{length}
 use lib.Pow.{pow-pos}
 use Rattle.limb.specs.Carry.{bit}
 use Rattle.limb.specs.Value.{valueOf, Below}
 use Rattle.limb.proofs.Value.{value-lt, base-pow}
-use Rattle.numbers.specs.Limits.{mostExponent, mostPrecision, limbsFor}
+use Rattle.numbers.specs.Limits.{leastExponent, mostExponent, mostPrecision, limbsFor}
 use Rattle.numbers.specs.Limbs.{limbsOf}
 use Rattle.numbers.specs.Operand.{Operand, Regular, spareBits}
 use Rattle.numbers.proofs.Digits.{limbs-count, limbs-below, limbs-value}
@@ -45,13 +46,16 @@ module _ (p : ℕ) (pair : Pair) (first before : List ℕ) (a : Alone p pair fir
   top : pair .top ≡ z .exponent
   top = ap (λ (s : Pair). s .top) (a .offered .holding .pair-is) ∙ pair-top z (a .offered .other)
 
-  pub limbs : Below (2 ^ 64) first
+  limbs : Below (2 ^ 64) first
   limbs = subst (Below (2 ^ 64)) (sym limbs-are) (a .offered .holding .course .ordered .first .limb)
 
   lead : 2 ^ (64 * length first - 1) ≤ valueOf first
   lead =
       subst (λ (m : ℕ). 2 ^ (64 * m - 1) ≤ valueOf first) (sym (a .long ∙ count p pair first before a))
       (subst (λ (l : List ℕ). 2 ^ (64 * limbsFor (z .precision) - 1) ≤ valueOf l) (sym limbs-are) (good .lead))
+
+  some : 0 < valueOf first
+  some = lt-of-lt-of-le (pow-pos (64 * length first - 1)) lead
 
   deep : 64 * (length first + 1) < pair .top
   unfolding limbsFor mostPrecision
@@ -68,19 +72,22 @@ module _ (p : ℕ) (pair : Pair) (first before : List ℕ) (a : Alone p pair fir
       record {
         some = digits-some p n (a .room);
         count = a .long ∙ a .room .count;
+        limb = limbs;
         lead = lead;
         clean = whole-less (valueOf first) (spareBits (z .precision)) (spareBits p) (more-spare h) (subst (λ (l : List ℕ). valueOf l % 2 ^ spareBits (z .precision) ≡ 0) (sym limbs-are) (good .spare));
         deep = deep;
-        high = subst (λ (m : ℕ). m ≤ mostExponent) (sym top) (good .most);
+        least = subst (λ (m : ℕ). leastExponent ≤ m) (sym top) (good .least);
+        most = subst (λ (m : ℕ). m ≤ mostExponent) (sym top) (good .most);
       }
+
+  -- a sum's exponent may go up by one
+  pub below-most : pair .same ≡ true → pair .top < mostExponent
+  below-most s = let l = ltb-false mostExponent (pair .top + 2) (a .high s) in omega arith
 
   -- ---- a copy of it
 
   pub stored : {t : List ℕ} → t ≡ first → pair .first ≤ p → Stored p (pair .top) t
   stored copied h = subst (Stored p (pair .top)) (sym copied) (of-first h)
-
-  some : 0 < valueOf first
-  some = lt-of-lt-of-le (pow-pos (64 * length first - 1)) lead
 
   -- ---- a little more
 

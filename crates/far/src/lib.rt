@@ -104,7 +104,7 @@ fn round_kept(
     if pair.same {
         return place::round_above(negative, target, pair.top, p, mode);
     }
-    place::round_below(negative, target, pair.top)
+    place::round_below(negative, pair.top)
 }
 
 // Rounds the first operand and a little more, or a little less.

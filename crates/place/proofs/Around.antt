@@ -13,11 +13,11 @@ use lib.Pow.{pow-pos, pow-add, pow-lt, shr-lt}
 use mir.Val.{boolByte}
 use Rattle.limb.specs.Carry.{bit}
 use Rattle.limb.specs.Value.{valueOf, Below}
-use Rattle.limb.proofs.Carry.{bit-byte}
+use Rattle.limb.proofs.Carry.{bit-byte, byte-le}
 use Rattle.limb.proofs.Powers.{moved-twice}
 use Rattle.limb.proofs.Sizes.{part-most}
 use Rattle.limb.proofs.Value.{value-lt, value-unique, base-pow}
-use Rattle.numbers.specs.Limits.{limbsFor}
+use Rattle.numbers.specs.Limits.{leastExponent, mostExponent, limbsFor}
 use Rattle.numbers.specs.Limbs.{limbsOf}
 use Rattle.numbers.specs.Operand.{spareBits}
 use Rattle.numbers.proofs.Limits.{limbs-fewest}
@@ -98,6 +98,14 @@ limbs-are p t v lim count e =
     let small : v < 2 ^ (64 * limbsFor p) = subst (λ (n : ℕ). n < 2 ^ (64 * limbsFor p)) e (subst (λ (n : ℕ). valueOf t < n) (base-pow (length t) ∙ ap (λ (n : ℕ). 2 ^ (64 * n)) count) (value-lt (2 ^ 64) t lim)) in
     value-unique (2 ^ 64) t (limbsOf (limbsFor p) v) lim (limbs-below (limbsFor p) v) (count ∙ sym (limbs-count (limbsFor p) v)) (e ∙ sym (limbs-value (limbsFor p) v small))
 
+-- ---- an exponent in range
+
+abbrev pub placedAt : ℕ → ℤ → Placed
+placedAt e tern = record { rule = 0; exponent = e; ternary = tern }
+
+in-range : (e : ℕ) (tern : ℤ) (t : List ℕ) → leastExponent ≤ e → e ≤ mostExponent → Settled e tern t (placedAt e tern) t
+in-range e tern t l m = record { large = λ k. absurd (omega arith); small = λ k. absurd (omega arith); inside = λ k i. (refl, refl) }
+
 -- ---- a number of p digits in a target
 
 -- what the code asks of it
@@ -121,7 +129,7 @@ module _ (p exponent : ℕ) (t : List ℕ) (h : Stored p exponent t) where
   clean = subst (λ (n : ℕ). valueOf t % 2 ^ n ≡ 0) spare-is (h .clean)
 
 -- what is selected
-module _ (p exponent : ℕ) (t : List ℕ) (lim : Below (2 ^ 64) t) (h : Stored p exponent t) where
+module _ (p exponent : ℕ) (t : List ℕ) (h : Stored p exponent t) where
   abbrev S : ℕ
   S = spareBits p
 
@@ -141,7 +149,7 @@ module _ (p exponent : ℕ) (t : List ℕ) (lim : Below (2 ^ 64) t) (h : Stored 
   run-is = ap (λ (m : ℕ). m * 2 ^ 64) value-is ∙ sym (moved-twice q S 64)
 
   q-lt : q < 2 ^ p
-  q-lt = shr-lt p S (subst (λ (m : ℕ). valueOf t < m) (base-pow (length t) ∙ ap (λ (n : ℕ). 2 ^ n) (wide p exponent t h)) (value-lt (2 ^ 64) t lim))
+  q-lt = shr-lt p S (subst (λ (m : ℕ). valueOf t < m) (base-pow (length t) ∙ ap (λ (n : ℕ). 2 ^ n) (wide p exponent t h)) (value-lt (2 ^ 64) t (h .limb)))
 
   half : 2 ^ p ≡ 2 ^ (p - 1) * 2
   half = ap (λ (n : ℕ). 2 ^ n) (let z : p ≡ p - 1 + 1 = omega (arith, h .some) in z) ∙ pow-add 2 (p - 1) 1
@@ -246,21 +254,22 @@ module _ (p exponent : ℕ) (t : List ℕ) (lim : Below (2 ^ 64) t) (h : Stored 
 
     -- ---- what is told and left
 
-    pub above-placed : (up out : Bool) (raised after : List ℕ) (r : Placed) (tern : ℤ) (e : ℕ) → up ≡ goesUp w Lower false → RoundedUp S (q + bit up) t out raised → Below (2 ^ 64) raised
-        → e ≡ exponent + boolByte out → tern ≡ ternaryOf (signed negative (side Lower up)) → Settled e tern raised r after
-        → (r ≡ placedOf (aboveAnswer mode p negative exponent t)) × (after ≡ limbsAfter p (aboveAnswer mode p negative exponent t))
-    above-placed up out raised after r tern e u a limbs f g end =
+    pub above-placed : exponent < mostExponent → (up out : Bool) (raised : List ℕ) (tern : ℤ) → up ≡ goesUp w Lower false → RoundedUp S (q + bit up) t out raised → Below (2 ^ 64) raised
+        → tern ≡ ternaryOf (signed negative (side Lower up))
+        → (placedAt (exponent + boolByte out) tern ≡ placedOf (aboveAnswer mode p negative exponent t)) × (raised ≡ limbsAfter p (aboveAnswer mode p negative exponent t))
+    above-placed room up out raised tern u a limbs g =
         let digits : 64 * length t - S ≡ p = omega (arith, wide p exponent t h) in
         let m = q + bit up in
+        let e = exponent + boolByte out in
         let size = a .size ∙ h .count in
         let value : valueOf raised ≡ asDigits p m * 2 ^ S = a .value ∙ ap (λ (n : ℕ). asDigits n m * 2 ^ S) digits in
-        let told = settled p e (asDigits p m) negative (signed negative (side Lower up)) tern raised after r g size (limbs-are p raised _ limbs size value) end in
-        let is = above-is up e u (f ∙ ap (λ (n : ℕ). exponent + n) (sym (bit-byte out) ∙ ap bit (a .out-is ∙ ap (λ (n : ℕ). isFull n m) digits))) in
+        let told = settled p e (asDigits p m) negative (signed negative (side Lower up)) tern raised raised (placedAt e tern) g size (limbs-are p raised _ limbs size value) (in-range e tern raised (omega (arith, h .least)) (omega (arith, room, byte-le out))) in
+        let is = above-is up e u (ap (λ (n : ℕ). exponent + n) (sym (bit-byte out) ∙ ap bit (a .out-is ∙ ap (λ (n : ℕ). isFull n m) digits))) in
         (told .0 ∙ ap placedOf (sym is), told .1 ∙ ap (limbsAfter p) (sym is))
 
-    pub below-placed : goesUp w Upper false ≡ true → (after : List ℕ) (r : Placed) (tern : ℤ) → tern ≡ ternaryOf (signed negative (side Upper true)) → Settled exponent tern t r after
-        → (r ≡ placedOf (belowAnswer mode p negative exponent t)) × (after ≡ limbsAfter p (belowAnswer mode p negative exponent t))
-    below-placed out after r tern g end =
-        let told = settled p exponent q negative (signed negative (side Upper true)) tern t after r g (h .count) (limbs-are p t _ lim (h .count) value-is) end in
+    pub below-placed : goesUp w Upper false ≡ true → (tern : ℤ) → tern ≡ ternaryOf (signed negative (side Upper true))
+        → (placedAt exponent tern ≡ placedOf (belowAnswer mode p negative exponent t)) × (t ≡ limbsAfter p (belowAnswer mode p negative exponent t))
+    below-placed out tern g =
+        let told = settled p exponent q negative (signed negative (side Upper true)) tern t t (placedAt exponent tern) g (h .count) (limbs-are p t _ (h .limb) (h .count) value-is) (in-range exponent tern t (h .least) (h .most)) in
         let is = below-is out in
         (told .0 ∙ ap placedOf (sym is), told .1 ∙ ap (limbsAfter p) (sym is))

@@ -7,14 +7,15 @@
 //
 ghost use mathlib.Core.Path.{_≡_};
 ghost use mathlib.Core.Bool.{true, false};
-ghost use Prim.Native.Nat.{ℕ};
+ghost use mathlib.Core.List.{List};
+ghost use Prim.Native.Nat.{ℕ, _<_};
+ghost use Rattle.numbers.specs.Limits.{mostExponent};
 ghost use Rattle.rounding.specs.Mode.{modeOf, way};
 ghost use Rattle.location.specs.declared.Location.the-variants.{Upper};
 ghost use Rattle.location.specs.Location.{goesUp};
 ghost use Rattle.place.specs.Placed.{placedOf, limbsAfter};
 ghost use Rattle.place.specs.Beside.{Stored, aboveAnswer, belowAnswer};
 use crate::Placed;
-use crate::limits::settle;
 use kept::round_up;
 use location::Location;
 use location::rounds_up;
@@ -28,23 +29,28 @@ pub fn round_above(
     precision: u64,
     mode: u8,
 ) -> Placed
-    requires { ⌜ Stored precision exponent (now target) ⌝ }
+    requires { ⌜ Stored precision exponent (now target) × (exponent < mostExponent) ⌝ }
     ensures { λ r. ⌜ r ≡ placedOf (aboveAnswer mode precision negative exponent (now (target .entry))) ⌝ }
     ensures { λ r. ⌜ now (target .exit) ≡ limbsAfter precision (aboveAnswer mode precision negative exponent (now (target .entry))) ⌝ }
 {
     let spare = 64 * (target.len() as u64) - precision;
     let up = rounds_up(mode, negative, Location::Lower, false);
     let over = round_up(target, spare, up);
-    settle(
-        target,
-        exponent + (over as u64),
-        ternary(negative, Location::Lower, up),
-    )
+    let raised = exponent + (over as u64);
+    Placed {
+        rule: 0,
+        exponent: raised,
+        ternary: ternary(negative, Location::Lower, up),
+    }
 }
 
-// Rounds a little less than the number in the target, under a mode that takes it up to the number again.
-pub fn round_below(negative: bool, target: &mut [u64], exponent: u64) -> Placed
-    ensures { λ r. ⌜ ((mode p : ℕ) → Stored p exponent (now (target .entry)) → goesUp (way (modeOf mode) negative) Upper false ≡ true → (r ≡ placedOf (belowAnswer mode p negative exponent (now (target .entry)))) × (now (target .exit) ≡ limbsAfter p (belowAnswer mode p negative exponent (now (target .entry))))) ⌝ }
+// What is told of a little less than such a number, under a mode that takes it up to the number again: the target stays.
+pub fn round_below(negative: bool, exponent: u64) -> Placed
+    ensures { λ r. ⌜ ((mode p : ℕ) (t : List ℕ) → Stored p exponent t → goesUp (way (modeOf mode) negative) Upper false ≡ true → (r ≡ placedOf (belowAnswer mode p negative exponent t)) × (t ≡ limbsAfter p (belowAnswer mode p negative exponent t))) ⌝ }
 {
-    settle(target, exponent, ternary(negative, Location::Upper, true))
+    Placed {
+        rule: 0,
+        exponent,
+        ternary: ternary(negative, Location::Upper, true),
+    }
 }

@@ -1,6 +1,6 @@
 -- `place::beside::round_above` is right since less than half of the last digit lies below it: only a way away from zero adds the last unit.
 -- Assumes nothing.
-use mathlib.Core.Path.{refl, sym, _∙_, subst}
+use mathlib.Core.Path.{sym, _∙_, subst}
 use Prim.Native.Nat.{ℕ, _+_, _/_, _^_}
 use native.Mathlib.Omega.{arith}
 use mir.Facts.{toZ-ofZ}
@@ -19,44 +19,40 @@ mul-spare : tie.Need-mul-spare
 mul-spare c = search needs
 
 sub-spare : tie.Need-sub-spare
-sub-spare c = fits _ _ _ (c .before .pre)
+sub-spare c = fits _ _ _ (c .before .pre .0)
 
 rounds-up-requires : tie.Need-rounds-up-requires
 rounds-up-requires c κs = search needs
 
 round-up-requires : tie.Need-round-up-requires
 round-up-requires c κs =
-    let h = c .before .before .before .pre in
+    let h = c .before .before .before .pre .0 in
     (some-limbs _ _ _ h, spare-few _ _ _ h, clean _ _ _ h)
 
-cast-settle : tie.Need-cast-settle
-cast-settle c = search needs
+cast-raised : tie.Need-cast-raised
+cast-raised c = search needs
 
-add-settle : tie.Need-add-settle
+add-raised : tie.Need-add-raised
 unfolding mostExponent bias
-add-settle c = let s = c .before .before .before .before .before .before .before in omega (arith, s .pre .high, byte-le (c .before .before .before .round-up .result))
+add-raised c = let s = c .before .before .before .before .before .before in omega (arith, s .pre .1, byte-le (c .before .before .round-up .result))
 
 ternary-requires : tie.Need-ternary-requires
 ternary-requires c κs = search needs
-
-settle-requires : tie.Need-settle-requires
-settle-requires c κs = search needs
 
 same-length : tie.Need-same-length
 same-length c = search needs
 
 returns : tie.Need-returns
 returns c =
-    let l = c .before .before .before .before .before in
+    let l = c .before in
     let u = l .before .before in
     let k = u .before .before in
     let s = k .before .before in
     let g = s .args in
-    let t = c .before .before .before .ternary in
-    above-placed (g .precision) (g .exponent) (g .target .now) (λ i. k .before .slice-known .given i .fits) (s .pre) (g .mode) (g .negative) (k .rounds-up .result) (u .round-up .result) (u .round-up .last .0) _ _ _ _
+    above-placed (g .precision) (g .exponent) (g .target .now) (s .pre .0) (g .mode) (g .negative) (s .pre .1) (k .rounds-up .result) (u .round-up .result) (u .round-up .last .0) _
     (k .rounds-up .ensures)
-    (subst (λ (n : ℕ). RoundedUp n (valueOf (g .target .now) / 2 ^ n + bit (k .rounds-up .result)) (g .target .now) (u .round-up .result) (u .round-up .last .0)) (sym (spare-is (g .precision) (g .exponent) (g .target .now) (s .pre))) (u .round-up .ensures))
-    (λ i. l .slice-known2 .given i .fits) refl (toZ-ofZ {w = w8} (record { sfits = t .ok }) ∙ t .ensures) (c .before .before .settle .ensures)
+    (subst (λ (n : ℕ). RoundedUp n (valueOf (g .target .now) / 2 ^ n + bit (k .rounds-up .result)) (g .target .now) (u .round-up .result) (u .round-up .last .0)) (sym (spare-is (g .precision) (g .exponent) (g .target .now) (s .pre .0))) (u .round-up .ensures))
+    (λ i. l .slice-known2 .given i .fits) (toZ-ofZ {w = w8} (record { sfits = c .ternary .ok }) ∙ c .ternary .ensures)
 
 pub round-above-spec : {M : Type 1} → statement M
 round-above-spec =
@@ -66,9 +62,8 @@ round-above-spec =
     sub-spare
     rounds-up-requires
     round-up-requires
-    cast-settle
-    add-settle
+    cast-raised
+    add-raised
     ternary-requires
-    settle-requires
     same-length
     returns)

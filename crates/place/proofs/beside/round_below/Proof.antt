@@ -11,18 +11,10 @@ use Rattle.place.proofs.beside.round_below.Tie as tie
 ternary-requires : tie.Need-ternary-requires
 ternary-requires c κs = search needs
 
-settle-requires : tie.Need-settle-requires
-settle-requires c κs = search needs
-
-same-length : tie.Need-same-length
-same-length c = search needs
-
 returns : tie.Need-returns
 returns c =
-    let k = c .before .before .before .before .before in
-    let g = k .before .args in
-    let t = c .before .before .before .ternary in
-    λ mode p h e. below-placed p (g .exponent) (g .target .now) (λ i. k .slice-known .given i .fits) h mode (g .negative) e _ _ _ (toZ-ofZ {w = w8} (record { sfits = t .ok }) ∙ t .ensures) (c .before .before .settle .ensures)
+    let g = c .before .args in
+    λ mode p t h e. below-placed p (g .exponent) t h mode (g .negative) e _ (toZ-ofZ {w = w8} (record { sfits = c .ternary .ok }) ∙ c .ternary .ensures)
 
 pub round-below-spec : {M : Type 1} → statement M
-round-below-spec = tie.close (tie.spec ternary-requires settle-requires same-length returns)
+round-below-spec = tie.close (tie.spec ternary-requires returns)
