@@ -8,7 +8,7 @@ use borrow.Author.Tests.{le-leb}
 use lib.Dec.{ltb, leb}
 use lib.ListN.{length}
 use Rattle.limb.specs.Value.{valueOf, Below}
-use Rattle.numbers.specs.Limits.{leastExponent, mostExponent, mostPrecision, limbsFor}
+use Rattle.numbers.specs.Limits.{leastExponent, mostPrecision, limbsFor}
 use Rattle.numbers.specs.Operand.{Operand}
 use Rattle.rounding.specs.Mode.{modeOf}
 use Rattle.place.specs.declared.Placed.{Placed}
@@ -19,17 +19,17 @@ use Rattle.walk.specs.Change.{Fallen}
 use Rattle.settle.specs.declared.rows.Pair.{Pair}
 use Rattle.bridge.proofs.Told.{pair-first}
 use Rattle.descent.specs.Ready.{Room}
-use Rattle.descent.specs.Course.{Prompt, Sighted}
+use Rattle.descent.specs.Course.{Prompt}
 use Rattle.descent.proofs.GoingDown.{room-some, room-kept}
 use Rattle.reports.specs.Counts.{usedOf}
 use Rattle.reports.proofs.Counts.{used-none, used-all}
 use Rattle.wide.specs.declared.filling.Filled.{Filled}
-use Rattle.wide.specs.Filling.{Holding, Offered, Rounds, Fills}
+use Rattle.wide.specs.Filling.{Holding, Rounds, Fills}
 use Rattle.wide.specs.Attempted.{Attempted}
-use Rattle.wide.proofs.FullTarget.{offered-sighted}
 use Rattle.wide.proofs.InHollow.{number-falls, hollow-sum, hollow-difference}
 use Rattle.wide.proofs.InOrder.{unit-room, fit, in-order-told}
 use Rattle.far.specs.Beside.{Beside}
+use Rattle.far.specs.Alone.{Alone}
 use Rattle.far.proofs.Limbs.{read-all}
 
 -- ---- a little more, a little less
@@ -57,59 +57,68 @@ used-in-order false e f u = (e ∙ u .0, f ∙ u .1)
 abbrev runOf : ℕ → ℕ → Filled
 runOf n guard = record { «open» = false; carry = false; guard = guard; more = true; depth = n }
 
-module _ (p : ℕ) (pair : Pair) (first second before : List ℕ) (room : Room p (length before)) (offered : Offered pair first second) (long : length first ≡ length before) (below : 64 * length before ≤ pair .gap) where
+module _ (p : ℕ) (pair : Pair) (first before : List ℕ) (a : Alone p pair first before) where
   abbrev n : ℕ
   n = length before
 
-  abbrev h : Holding (offered .larger) (offered .other) pair first second
-  h = offered .holding
+  abbrev second : List ℕ
+  second = a .second
 
-  pub seen : Sighted pair (length first) 0 n
-  seen = offered-sighted p pair first second offered before room
+  abbrev pub x : Operand
+  x = a .offered .larger
+
+  abbrev h : Holding x (a .offered .other) pair first second
+  h = a .offered .holding
 
   second-few : length second ≤ 2 ^ 20
   unfolding limbsFor mostPrecision
   second-few = rw (h .second-is) (omega (arith, h .course .ordered .second .count, h .course .ordered .second .most))
 
+  pub digits-are : pair .first ≡ x .precision
+  digits-are = ap (λ (s : Pair). s .first) (h .pair-is) ∙ pair-first x (a .offered .other)
+
+  -- its own digits take as many limbs as those asked for
+  pub count : length before ≡ limbsFor (x .precision)
+  count = sym (a .long) ∙ ap length (h .first-is) ∙ h .course .ordered .first .count
+
   fits : pair .first ≤ 64 * n
   unfolding limbsFor
-  fits = omega (arith, ap (λ (s : Pair). s .first) (h .pair-is) ∙ pair-first (offered .larger) (offered .other), h .course .ordered .first .count, ap length (h .first-is), long)
+  fits = omega (arith, digits-are, count)
 
   apart : (leb (64 * n) (pair .gap) && leb (pair .first) (64 * n)) ≡ true
-  apart = rw (le-leb (64 * n) (pair .gap) below, le-leb (pair .first) (64 * n) fits) refl
+  apart = rw (le-leb (64 * n) (pair .gap) (a .below), le-leb (pair .first) (64 * n) fits) refl
 
-  module _ (high : pair .same ≡ true → ltb mostExponent (pair .top + 2) ≡ false) (low : pair .same ≡ false → ltb (pair .top + 1) (leastExponent + 64 * (n - 1)) ≡ false) where
-    prompt : Prompt pair (length first) (length second) 0 n
-    prompt = record { first-long = omega (arith, long); second-long = λ s. (second-few, omega (arith, below)); high = high; low = λ s. subst (λ (m : ℕ). ltb (pair .top + 1) (leastExponent + 64 * m) ≡ false) start (low s) }
+  prompt : Prompt pair (length first) (length second) 0 n
+  prompt = record { first-long = omega (arith, a .long); second-long = λ s. (second-few, omega (arith, a .below)); high = a .high; low = λ s. subst (λ (m : ℕ). ltb (pair .top + 1) (leastExponent + 64 * m) ≡ false) start (a .low s) }
+    where
+      start : n - 1 ≡ 0 + n - 1
+      start = omega arith
+
+  read : readTo n 0 first ≡ valueOf first
+  read = subst (λ (m : ℕ). readTo m 0 first ≡ valueOf first) (a .long) (read-all first)
+
+  module _ (after : List ℕ) (guard : ℕ) (lim : Below (2 ^ 64) after) (b : Beside (pair .same) first after guard) where
+    size : length after ≡ n
+    size = b .size ∙ a .long
+
+    fills : Fills p pair first second after (runOf n guard)
+    fills e o z w g = go (pair .same) refl
       where
-        start : n - 1 ≡ 0 + n - 1
-        start = omega arith
+        go : (s : Bool) → pair .same ≡ s → Rounds o p z w after false guard true n
+        go true s = rw (b .more s .1) (hollow-sum p pair first second before after (a .room) apart (a .far) prompt size lim o z w g s (b .more s .0 ∙ sym read))
+        go false s = rw (b .less s .1) (hollow-difference p pair first second before after (a .room) apart (a .far) prompt size lim o z w g s (rw read (b .less s .0)))
 
-    read : readTo n 0 first ≡ valueOf first
-    read = subst (λ (m : ℕ). readTo m 0 first ≡ valueOf first) long (read-all first)
+    kept : Room p (length after)
+    kept = room-kept _ _ _ size (a .room)
 
-    module _ (far : p + 1 < pair .gap) (after : List ℕ) (guard : ℕ) (lim : Below (2 ^ 64) after) (b : Beside (pair .same) first after guard) where
-      size : length after ≡ n
-      size = b .size ∙ long
+    pub far-unit : 64 * (length after + 1) ≤ pair .top
+    far-unit = unit-room 0 p pair first second after (runOf n guard) kept fills refl x (a .offered .other) h
 
-      fills : Fills p pair first second after (runOf n guard)
-      fills e o x y g = go (pair .same) refl
-        where
-          go : (s : Bool) → pair .same ≡ s → Rounds o p x y after false guard true n
-          go true s = rw (b .more s .1) (hollow-sum p pair first second before after room apart far prompt size lim o x y g s (b .more s .0 ∙ sym read))
-          go false s = rw (b .less s .1) (hollow-difference p pair first second before after room apart far prompt size lim o x y g s (rw read (b .less s .0)))
+    pub far-fit : runRule p false after (pair .top - 64 * (length after + 1)) ≡ 0
+    far-fit = fit 0 p pair first second after (runOf n guard) kept fills refl x (a .offered .other) h
 
-      kept : Room p (length after)
-      kept = room-kept _ _ _ size room
-
-      pub far-unit : 64 * (length after + 1) ≤ pair .top
-      far-unit = unit-room 0 p pair first second after (runOf n guard) kept fills refl (offered .larger) (offered .other) h
-
-      pub far-fit : runRule p false after (pair .top - 64 * (length after + 1)) ≡ 0
-      far-fit = fit 0 p pair first second after (runOf n guard) kept fills refl (offered .larger) (offered .other) h
-
-      pub far-told : (mode : ℕ) (negative : Bool) (z w : Operand) → Holding z w pair first second → negative ≡ z .negative → (swapped : Bool) {exit : List ℕ} {placed : Placed} {i j : ℕ}
-          → placed ≡ roundedPlaced mode p negative (pair .top - 64 * (length after + 1)) false after guard true → exit ≡ roundedLimbs mode p negative (pair .top - 64 * (length after + 1)) false after guard true
-          → i ≡ cond swapped 0 n → j ≡ cond swapped n 0 → Attempted (modeOf mode) p z w exit negative placed n (cond swapped j i) (cond swapped i j)
-      far-told mode negative z w g sign swapped a d e f =
-          in-order-told mode p pair first second after (runOf n guard) kept fills refl z w g negative sign a d (used-in-order swapped e f (used-far n (pair .gap) (length first) (length second) (room-some p n room) long below))
+    pub far-told : (mode : ℕ) (negative : Bool) (z w : Operand) → Holding z w pair first second → negative ≡ z .negative → (swapped : Bool) {exit : List ℕ} {placed : Placed} {i j : ℕ}
+        → placed ≡ roundedPlaced mode p negative (pair .top - 64 * (length after + 1)) false after guard true → exit ≡ roundedLimbs mode p negative (pair .top - 64 * (length after + 1)) false after guard true
+        → i ≡ cond swapped 0 n → j ≡ cond swapped n 0 → Attempted (modeOf mode) p z w exit negative placed n (cond swapped j i) (cond swapped i j)
+    far-told mode negative z w g sign swapped c d e f =
+        in-order-told mode p pair first second after (runOf n guard) kept fills refl z w g negative sign c d (used-in-order swapped e f (used-far n (pair .gap) (length first) (length second) (room-some p n (a .room)) (a .long) (a .below)))

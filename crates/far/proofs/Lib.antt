@@ -1,2 +1,3 @@
 pub mod Limbs
 pub mod FirstAlone
+pub mod KeptFirst

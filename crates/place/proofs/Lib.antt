@@ -5,4 +5,5 @@ pub mod Finer
 pub mod Normalized
 pub mod Exact
 pub mod ExactOne
+pub mod Around
 pub mod Examples

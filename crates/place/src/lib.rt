@@ -16,7 +16,10 @@ ghost use Rattle.place.specs.Rounded.{roundedPlaced, roundedLimbs};
 
 mod limits; // limits.rt: which runs are rounded, and which exponents are in range
 mod one; // one.rt: a run of one limb by value, wherever its first digit stands
+mod beside; // beside.rt: a little more or a little less than a number of the digits asked for
 
+pub use beside::round_above;
+pub use beside::round_below;
 use kept::is_odd;
 use kept::raise;
 use kept::reach;

@@ -3,9 +3,9 @@ use mathlib.Core.Path.{refl, sym, _∙_}
 use mathlib.Core.Bool.{true≢false}
 use native.Mathlib.Omega.{arith}
 use Rattle.descent.proofs.AtOnce.{not-true}
-use Rattle.descent.proofs.GoingDown.{room-kept}
-use Rattle.wide.proofs.InOrder.{limbs-weigh}
-use Rattle.far.proofs.FirstAlone.{seen, far-unit, far-fit, far-told}
+use Rattle.wide.proofs.FullTarget.{offered-sighted}
+use Rattle.far.specs.Alone.{Alone}
+use Rattle.far.proofs.FirstAlone.{far-told}
 use borrow.Author.Needs.{needs}
 use Rattle.far.proofs.attempt.Statement.{statement}
 use Rattle.far.proofs.attempt.Tie as tie
@@ -13,12 +13,12 @@ use Rattle.far.proofs.attempt.Tie as tie
 sub-is-inland : tie.Need-sub-is-inland
 sub-is-inland c =
     let s = c .before .before .before in
-    seen (s .args .p) _ (s .args .first .now) (s .args .second .now) (s .args .target .now) (s .pre .0) (s .pre .1) (s .pre .2) (s .pre .3) .some
+    offered-sighted (s .args .p) _ (s .args .first .now) (s .args .second .now) (s .pre .1) (s .args .target .now) (s .pre .0) .some
 
 is-inland-requires : tie.Need-is-inland-requires
 is-inland-requires c κs =
     let s = c .before .before .before in
-    let w = seen (s .args .p) _ (s .args .first .now) (s .args .second .now) (s .args .target .now) (s .pre .0) (s .pre .1) (s .pre .2) (s .pre .3) in
+    let w = offered-sighted (s .args .p) _ (s .args .first .now) (s .args .second .now) (s .pre .1) (s .args .target .now) (s .pre .0) in
     (w .top, omega (arith, w .target))
 
 nothing-requires : tie.Need-nothing-requires
@@ -27,31 +27,25 @@ nothing-requires c κs = search needs
 returns : tie.Need-returns
 returns c = (refl, λ e. absurd (true≢false (sym (c .nothing .ensures) ∙ e)))
 
-fill-requires : tie.Need-fill-requires
-fill-requires c κs = search needs
+-- what is held where no refusal is near
+alone : (c : tie.Else1) → let s = c .before .before .before .before .before in Alone (s .args .p) (s .args .pair) (s .args .first .now) (s .args .target .now)
+alone c =
+    let s = c .before .before .before .before .before in
+    let e = not-true _ (c .if1 .left) in
+    let clear = c .before .is-inland .ensures in
+    record {
+      second = s .args .second .now;
+      offered = s .pre .1;
+      room = s .pre .0;
+      long = s .pre .2;
+      below = s .pre .3;
+      far = s .pre .4;
+      high = clear .0 e;
+      low = clear .1 e;
+    }
 
-add-round-fit : tie.Need-add-round-fit
-add-round-fit c = search needs
-
-mul-round-fit : tie.Need-mul-round-fit
-mul-round-fit c =
-    let s = c .before .before .before .before .before .before .before .before .before .before in
-    let w = limbs-weigh (s .args .p) _ (room-kept _ _ _ (c .before .before .target .given) (s .pre .0)) in
-    omega (arith, w)
-
-sub-round-fit : tie.Need-sub-round-fit
-sub-round-fit c =
-    let f = c .before .before .before .before in
-    let s = f .before .before .before .before .before .before .before in
-    let e = not-true _ (f .before .before .if1 .left) in
-    far-unit (s .args .p) _ (s .args .first .now) (s .args .second .now) (s .args .target .now) (s .pre .0) (s .pre .1) (s .pre .2) (s .pre .3) (f .before .before .before .is-inland .ensures .0 e) (f .before .before .before .is-inland .ensures .1 e) (s .pre .4) _ _ (λ i. c .before .before .slice-known2 .given i .fits) (f .fill .ensures)
-
-round-fit-requires : tie.Need-round-fit-requires
-round-fit-requires c κs =
-    let f = c .before .before .before .before in
-    let s = f .before .before .before .before .before .before .before in
-    let e = not-true _ (f .before .before .if1 .left) in
-    far-fit (s .args .p) _ (s .args .first .now) (s .args .second .now) (s .args .target .now) (s .pre .0) (s .pre .1) (s .pre .2) (s .pre .3) (f .before .before .before .is-inland .ensures .0 e) (f .before .before .before .is-inland .ensures .1 e) (s .pre .4) _ _ (λ i. c .before .before .slice-known2 .given i .fits) (f .fill .ensures)
+round-requires : tie.Need-round-requires
+round-requires c κs = alone (c .before)
 
 either-requires : tie.Need-either-requires
 either-requires c κs = search needs
@@ -63,13 +57,15 @@ same-length : tie.Need-same-length
 same-length c = search needs
 
 returns-2 : tie.Need-returns-2
-returns-2 c = (
-  c .before .before .before .target2 .given ∙ c .before .before .before .before .before .before .before .before .target .given,
-  λ o z w h sign. let f = c .before .before .before .before .before .before .before .before .before in
-      let s = f .before .before .before .before .before .before .before in
-      let e = not-true _ (f .before .before .if1 .left) in
-      far-told (s .args .p) _ (s .args .first .now) (s .args .second .now) (s .args .target .now) (s .pre .0) (s .pre .1) (s .pre .2) (s .pre .3) (f .before .before .before .is-inland .ensures .0 e) (f .before .before .before .is-inland .ensures .1 e) (s .pre .4) _ _ (λ i. c .before .before .before .before .before .before .before .slice-known2 .given i .fits) (f .fill .ensures) (s .args .mode) _ z w h sign (s .args .swapped) (c .before .before .before .before .round-fit .ensures .0) (c .before .before .before .before .round-fit .ensures .1) (c .before .either .ensures) (c .either2 .ensures),
-)
+unfolding alone
+returns-2 c =
+    let r = c .before .before .before .before in
+    let e = r .before .before in
+    let s = e .before .before .before .before .before in
+    let a = r .round .ensures in (
+      c .before .before .before .target .given,
+      λ o z w h sign. far-told (s .args .p) _ (s .args .first .now) (s .args .target .now) (alone e) (a .run) (a .guard) (a .limbs) (a .beside) (s .args .mode) _ z w h sign (s .args .swapped) (a .placed) (a .left) (c .before .either .ensures) (c .either2 .ensures),
+    )
 
 pub attempt-spec : {M : Type 1} → statement M
 attempt-spec =
@@ -79,11 +75,7 @@ attempt-spec =
     is-inland-requires
     nothing-requires
     returns
-    fill-requires
-    add-round-fit
-    mul-round-fit
-    sub-round-fit
-    round-fit-requires
+    round-requires
     either-requires
     either-requires-2
     same-length
