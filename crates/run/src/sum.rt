@@ -55,7 +55,7 @@ fn add_few(target: &mut [u64], operand: &[u64], carry: bool) -> bool
         return add_each(target, operand, carry);
     }
     let up = add_four(target, operand, 0, carry);
-    add_each(&mut target[4..], part_from(operand, 4), up)
+    add_each(&mut target[4..], &operand[4..], up)
 }
 
 // Adds the operand and a carry into the target, as far as the target goes. Returns the carry out.
@@ -73,7 +73,7 @@ pub fn add_into(target: &mut [u64], operand: &[u64], carry: bool) -> bool
         up = add_four(target, operand, i + 4, up);
         i += 8;
     }
-    add_few(&mut target[i..], part_from(operand, i), up)
+    add_few(&mut target[i..], &operand[i..], up)
 }
 
 // Adds the operand's limbs from start on: limb start meets the target's lowest. A start past the end leaves nothing to add.

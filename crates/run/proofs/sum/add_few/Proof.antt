@@ -27,8 +27,14 @@ part-add-each-start c = search needs
 part-add-each-end : tie.Need-part-add-each-end
 part-add-each-end c = search needs
 
-part-from-requires : tie.Need-part-from-requires
-part-from-requires c κs = search needs
+sub-add-each-2 : tie.Need-sub-add-each-2
+sub-add-each-2 c = search needs
+
+part-add-each-start-2 : tie.Need-part-add-each-start-2
+part-add-each-start-2 c = search needs
+
+part-add-each-end-2 : tie.Need-part-add-each-end-2
+part-add-each-end-2 c = search needs
 
 add-each-requires-2 : tie.Need-add-each-requires-2
 add-each-requires-2 c κs = search needs
@@ -41,8 +47,9 @@ returns-2 c =
     let b = c .before .before in
     let f = b .before .before .before .before .before in
     let t = f .add-four .last .0 in
-    rest-added _ _ _ t _ 4 (omega arith) (omega arith) (f .add-four .ensures) _ _
-    (rw (part-is t 4, b .before .part-from .ensures) at (b .add-each2 .ensures))
+    let o = f .before .before .before .before .before .args .operand .now in
+    rest-added _ o _ t _ 4 (omega arith) (omega arith) (f .add-four .ensures) _ _
+    (rw (part-is t 4, part-is o 4) at (b .add-each2 .ensures))
 
 pub add-few-spec : {M : Type 1} → statement M
 add-few-spec =
@@ -55,7 +62,9 @@ add-few-spec =
     sub-add-each
     part-add-each-start
     part-add-each-end
-    part-from-requires
+    sub-add-each-2
+    part-add-each-start-2
+    part-add-each-end-2
     add-each-requires-2
     same-length-2
     returns-2)

@@ -69,13 +69,24 @@ part-add-few-start c = search needs
 part-add-few-end : tie.Need-part-add-few-end Inv-loop μ-loop
 part-add-few-end c = search needs
 
-part-from-requires : tie.Need-part-from-requires Inv-loop μ-loop
-part-from-requires c κs = search needs
+mul-add-few-2 : tie.Need-mul-add-few-2 Inv-loop μ-loop
+mul-add-few-2 c = search needs
+
+sub-add-few-2 : tie.Need-sub-add-few-2 Inv-loop μ-loop
+sub-add-few-2 c = search needs
+
+part-add-few-start-2 : tie.Need-part-add-few-start-2 Inv-loop μ-loop
+part-add-few-start-2 c = search needs
+
+part-add-few-end-2 : tie.Need-part-add-few-end-2 Inv-loop μ-loop
+part-add-few-end-2 c = search needs
 
 add-few-requires : tie.Need-add-few-requires Inv-loop μ-loop
 add-few-requires c κs =
-    let l = c .before .before .before .loop in
-    rw (part-is (l .target) (l .i), c .part-from .ensures) (simp length-drop (omega arith))
+    let a = c .before .before .before in
+    let l = a .loop in
+    let o = a .before .before .before .before .args .operand .now in
+    rw (part-is (l .target) (l .i), part-is o (l .i)) (simp length-drop (omega arith))
 
 same-length-2 : tie.Need-same-length-2 Inv-loop μ-loop
 same-length-2 c = search needs
@@ -83,9 +94,11 @@ same-length-2 c = search needs
 returns-2 : tie.Need-returns-2 Inv-loop μ-loop
 returns-2 c =
     let b = c .before .before in
-    let l = b .before .before .before .before .loop in
-    rest-added _ _ _ (l .target) (l .up) (l .i) (l .inv .0) (omega arith) (l .inv .1) _ _
-    (rw (part-is (l .target) (l .i), b .before .part-from .ensures) at (b .add-few .ensures))
+    let a = b .before .before .before .before in
+    let l = a .loop in
+    let o = a .before .before .before .before .args .operand .now in
+    rest-added _ o _ (l .target) (l .up) (l .i) (l .inv .0) (omega arith) (l .inv .1) _ _
+    (rw (part-is (l .target) (l .i), part-is o (l .i)) at (b .add-few .ensures))
 
 pub add-into-spec : {M : Type 1} → statement M
 add-into-spec =
@@ -108,7 +121,10 @@ add-into-spec =
     sub-add-few
     part-add-few-start
     part-add-few-end
-    part-from-requires
+    mul-add-few-2
+    sub-add-few-2
+    part-add-few-start-2
+    part-add-few-end-2
     add-few-requires
     same-length-2
     returns-2)
