@@ -2,8 +2,7 @@
 use mathlib.Core.Path.{_≡_, sym, ap, _∙_, refl}
 use mathlib.Core.Bool.{Bool, true, false, _&&_, Bool·beq, cond}
 use mathlib.Core.List.{List, []}
-use Prim.Native.Nat.{ℕ, _^_, _≤_, _<_, compare, Ordering, Ordering·lt, Ordering·eq, Ordering·gt}
-use native.Mathlib.Nat.{le-antisymm}
+use Prim.Native.Nat.{ℕ, _^_, _<_, compare, Ordering, Ordering·lt, Ordering·eq, Ordering·gt}
 use borrow.Author.Tests.{eq-eqb, ne-eqb}
 use Rattle.limb.specs.Value.{Below}
 use Rattle.numbers.specs.Limits.{counted}
@@ -36,22 +35,21 @@ same-positive x y h n = rw (h, n)
 
 module _ (x y : Number) (xl yl : List ℕ) where
   -- ---- two regular numbers
-  module _ (a b : ℕ) (p : a ≡ counted (x .exponent)) (q : b ≡ counted (y .exponent)) where
-    by-exponent : (o : Ordering) → compare a b ≡ o → regularOrder (operandOf x xl) (operandOf y yl) ≡ orElse o (alignedOrder xl yl)
-    unfolding regularOrder operandOf
-    by-exponent o e = ap (λ (o : Ordering). orElse o (alignedOrder xl yl)) (ap (λ (n : ℕ). compare n (counted (y .exponent))) (sym p) ∙ ap (compare a) (sym q) ∙ e)
+  by-exponent : (o : Ordering) → compare (counted (x .exponent)) (counted (y .exponent)) ≡ o → regularOrder (operandOf x xl) (operandOf y yl) ≡ orElse o (alignedOrder xl yl)
+  unfolding regularOrder operandOf
+  by-exponent o e = ap (λ (o : Ordering). orElse o (alignedOrder xl yl)) e
 
-    pub lower-exponent : a < b → Less ≡ caseOf (regularOrder (operandOf x xl) (operandOf y yl))
-    unfolding caseOf orElse
-    lower-exponent h = sym (ap caseOf (by-exponent Ordering·lt (compare-at Ordering·lt a b h)))
+  pub lower-exponent : counted (x .exponent) < counted (y .exponent) → Less ≡ caseOf (regularOrder (operandOf x xl) (operandOf y yl))
+  unfolding caseOf orElse
+  lower-exponent h = sym (ap caseOf (by-exponent Ordering·lt (compare-at Ordering·lt _ _ h)))
 
-    pub higher-exponent : b < a → Greater ≡ caseOf (regularOrder (operandOf x xl) (operandOf y yl))
-    unfolding caseOf orElse
-    higher-exponent h = sym (ap caseOf (by-exponent Ordering·gt (compare-at Ordering·gt a b h)))
+  pub higher-exponent : counted (y .exponent) < counted (x .exponent) → Greater ≡ caseOf (regularOrder (operandOf x xl) (operandOf y yl))
+  unfolding caseOf orElse
+  higher-exponent h = sym (ap caseOf (by-exponent Ordering·gt (compare-at Ordering·gt _ _ h)))
 
-    pub same-exponent : {r : Order} → b ≤ a → a ≤ b → r ≡ caseOf (alignedOrder xl yl) → r ≡ caseOf (regularOrder (operandOf x xl) (operandOf y yl))
-    unfolding orElse
-    same-exponent h g e = e ∙ sym (ap caseOf (by-exponent Ordering·eq (compare-at Ordering·eq a b (le-antisymm g h))))
+  pub same-exponent : {r : Order} → counted (x .exponent) ≡ counted (y .exponent) → r ≡ caseOf (alignedOrder xl yl) → r ≡ caseOf (regularOrder (operandOf x xl) (operandOf y yl))
+  unfolding orElse
+  same-exponent h e = e ∙ sym (ap caseOf (by-exponent Ordering·eq (compare-at Ordering·eq _ _ h)))
 
   -- ---- zeros
   module _ (a b : Bool) (p : a ≡ isZeroKind (x .kind)) (q : b ≡ isZeroKind (y .kind)) where

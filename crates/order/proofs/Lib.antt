@@ -1,3 +1,4 @@
+pub mod Exponents
 pub mod Head
 pub mod Sizes
 pub mod Cases

@@ -96,12 +96,10 @@ fn order_limbs(xl: &[u64], xp: u64, yl: &[u64], yp: u64) -> Order
 fn order_regular(x: Number, xl: &[u64], y: Number, yl: &[u64]) -> Order
     ensures { λ r. ⌜ r ≡ caseOf (regularOrder (operandOf x (now (xl .entry))) (operandOf y (now (yl .entry)))) ⌝ }
 {
-    let a = checks::counted_exponent(x.exponent);
-    let b = checks::counted_exponent(y.exponent);
-    if a < b {
-        return Order::Less;
-    }
-    if b < a {
+    if x.exponent != y.exponent {
+        if x.exponent < y.exponent {
+            return Order::Less;
+        }
         return Order::Greater;
     }
     order_limbs(xl, x.precision, yl, y.precision)

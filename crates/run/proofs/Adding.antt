@@ -14,7 +14,7 @@ use Rattle.limb.specs.Carry.{bit}
 use Rattle.limb.specs.Value.{valueIn, Below}
 use Rattle.limb.proofs.Carry.{sum-unique, difference-unique}
 use Rattle.limb.proofs.Value.{value-nil, value-take, value-set, value-append, value-split, value-lt, value-unique, below-part, value-kept}
-use Rattle.run.specs.Sum.{LimbAdded, Added, Subtracted, Reversed, AddedAt, SubtractedAt}
+use Rattle.run.specs.Sum.{LimbsAdded, Added, Subtracted, Reversed, AddedAt, SubtractedAt}
 use Rattle.parts.proofs.Parts.{part-is, drop-put}
 
 -- before any limb of the operand is added, the carry k stands at the bottom
@@ -28,46 +28,41 @@ nothing-added o carry = record { same-length = refl; value = none-added (2 ^ 64)
 pub nothing-subtracted : (o : List ℕ) (borrow : Bool) → Subtracted [] o borrow [] borrow
 nothing-subtracted o borrow = record { same-length = refl; value = sym (none-added (2 ^ 64) [] o (bit borrow)) }
 
--- a sum on its way: t₀ has become t, which with the carry k on top of its lowest i limbs is worth t₀, the operand's lowest i limbs and the carry in
-pub record AddedTo (i : ℕ) (t₀ o : List ℕ) (first : Bool) (t : List ℕ) (k : Bool) : Type 0 where
-  pub same-length : length t ≡ length t₀
-  pub value : valueIn (2 ^ 64) t + (2 ^ 64) ^ i * bit k ≡ valueIn (2 ^ 64) t₀ + valueIn (2 ^ 64) (take i o) + bit first
-
--- one turn: limb i of t becomes s with the carry out n, which are worth that limb, the operand's limb x and the carry in k
-limb-value : (B : ℕ) (t o : List ℕ) (i k all first x s n : ℕ) → i < length t → x ≡ getD o i 0 → s + B * n ≡ getD t i 0 + x + k
-    → valueIn B t + B ^ i * k ≡ all + valueIn B (take i o) + first
-    → valueIn B (set t i s) + B ^ (i + 1) * n ≡ all + valueIn B (take (i + 1) o) + first
-limb-value B t o i k all first x s n h ex e inv =
+-- limb i of t becomes s with the carry out n, which are worth that limb, the operand's limb x and the carry in k
+limb-value : (B : ℕ) (t o : List ℕ) (i k x s n : ℕ) → i < length t → x ≡ getD o i 0 → s + B * n ≡ getD t i 0 + x + k
+    → valueIn B (set t i s) + valueIn B (take i o) + B ^ (i + 1) * n ≡ valueIn B t + valueIn B (take (i + 1) o) + B ^ i * k
+limb-value B t o i k x s n h ex e =
     rw (add-one i, pow-succ' B i, value-take B i o)
     (omega (arith, ap (λ (m : ℕ). B ^ i * m) e, ap (λ (m : ℕ). B ^ i * m) ex, value-set B t i s h))
 
+-- so limb i is added
+pub limb-added : (t o : List ℕ) (k : Bool) (i x s : ℕ) (n : Bool) → i < length t → x ≡ getD o i 0 → s + 2 ^ 64 * bit n ≡ getD t i 0 + x + bit k
+    → LimbsAdded i (i + 1) t o k (set t i s) n
+limb-added t o k i x s n h ex e = record { same-length = length-set t i s; value = limb-value (2 ^ 64) t o i (bit k) x s (bit n) h ex e }
+
+-- the values, where limbs i to j - 1 are added and then those from j on
+limbs-joined : (low mid high t a b top middle bottom : ℕ) → a + low + middle ≡ t + mid + bottom → b + mid + top ≡ a + high + middle → b + low + top ≡ t + high + bottom
+limbs-joined low mid high t a b top middle bottom e f = omega arith
+
+-- so one run of limbs is added on the other
+pub added-on : (o t a b : List ℕ) (i j n m : ℕ) (k p q : Bool) → n ≡ m → LimbsAdded i j t o k a p → LimbsAdded j n a o p b q → LimbsAdded i m t o k b q
+added-on o t a b i j n m k p q e u w = record {
+  same-length = w .same-length ∙ u .same-length;
+  value = rw e at (limbs-joined (valueIn (2 ^ 64) (take i o)) (valueIn (2 ^ 64) (take j o)) _ _ _ _ _ ((2 ^ 64) ^ j * bit p) _ (u .value) (w .value));
+}
+
 module _ (t₀ o : List ℕ) (first : Bool) where
-  pub none-added-to : AddedTo 0 t₀ o first t₀ first
-  none-added-to = record { same-length = refl; value = none-added (2 ^ 64) t₀ o (bit first) }
+  -- before any limb is added
+  pub none-added-yet : LimbsAdded 0 0 t₀ o first t₀ first
+  none-added-yet = record { same-length = refl; value = refl }
 
-  pub all-added : (t : List ℕ) (k : Bool) (i : ℕ) → i ≡ length t₀ → AddedTo i t₀ o first t k → Added t₀ o first t k
-  all-added t k i e a = record { same-length = a .same-length; value = rw e at (a .value) }
+  -- the lowest i limbs are added
+  lowest-value : (t : List ℕ) (k : Bool) (i : ℕ) → LimbsAdded 0 i t₀ o first t k
+      → valueIn (2 ^ 64) t + (2 ^ 64) ^ i * bit k ≡ valueIn (2 ^ 64) t₀ + valueIn (2 ^ 64) (take i o) + bit first
+  lowest-value t k i a = omega (arith, rw (pow-zero, value-nil) at (a .value))
 
-  pub limb-added : (t : List ℕ) (k : Bool) (i x s : ℕ) (n : Bool) → i < length t → x ≡ getD o i 0 → s + 2 ^ 64 * bit n ≡ getD t i 0 + x + bit k
-      → AddedTo i t₀ o first t k → AddedTo (i + 1) t₀ o first (set t i s) n
-  limb-added t k i x s n h ex e a = record {
-    same-length = length-set t i s ∙ a .same-length;
-    value = limb-value (2 ^ 64) t o i (bit k) _ (bit first) x s (bit n) h ex e (a .value);
-  }
-
-  -- the same of a limb that `LimbAdded` speaks of, and four of them
-  added-by : (t a : List ℕ) (i j : ℕ) (k n : Bool) → j ≡ i + 1 → i < length t₀ → LimbAdded i t o k a n → AddedTo i t₀ o first t k → AddedTo j t₀ o first a n
-  added-by t a i j k n ej h s inv =
-      rw (ej, s .others) (limb-added t k i (getD o i 0) (getD a i 0) n (omega (arith, inv .same-length)) refl (s .limb) inv)
-
-  pub four-added : (t a b d e : List ℕ) (i : ℕ) (k p q r n : Bool) → i + 3 < length t₀
-      → LimbAdded i t o k a p → LimbAdded (i + 1) a o p b q → LimbAdded (i + 2) b o q d r → LimbAdded (i + 3) d o r e n
-      → AddedTo i t₀ o first t k → AddedTo (i + 4) t₀ o first e n
-  four-added t a b d e i k p q r n h sa sb sd se inv =
-      added-by d e (i + 3) (i + 4) r n (omega arith) (omega arith) se
-      (added-by b d (i + 2) (i + 3) q r (omega arith) (omega arith) sd
-      (added-by a b (i + 1) (i + 2) p q (omega arith) (omega arith) sb
-      (added-by t a i (i + 1) k p refl (omega arith) sa inv)))
+  pub all-added : (t : List ℕ) (k : Bool) (i : ℕ) → i ≡ length t₀ → LimbsAdded 0 i t₀ o first t k → Added t₀ o first t k
+  all-added t k i e a = record { same-length = a .same-length; value = rw e at (lowest-value t k i a) }
 
 -- two answers that meet the promise of a sum, or of a difference either way, are one
 module _ (xs ys : List ℕ) (p q : Bool) (hx : Below (2 ^ 64) xs) (hy : Below (2 ^ 64) ys) (before operand : List ℕ) (carry : Bool) where
@@ -144,7 +139,7 @@ sum-joined : (P all low high first k t top : ℕ) → t + P * k ≡ all + low + 
 sum-joined P all low high first k t top inv e = omega (arith, inv, e)
 
 -- the limbs below limb i have been added, and then those from there on, into that part of the target
-module _ (t₀ o : List ℕ) (first : Bool) (t : List ℕ) (k : Bool) (i : ℕ) (hi : i ≤ length t₀) (ho : length t₀ ≤ length o) (a : AddedTo i t₀ o first t k) where
+module _ (t₀ o : List ℕ) (first : Bool) (t : List ℕ) (k : Bool) (i : ℕ) (hi : i ≤ length t₀) (ho : length t₀ ≤ length o) (a : LimbsAdded 0 i t₀ o first t k) where
   within : i ≤ length t
   within = omega (arith, hi, a .same-length)
 
@@ -152,7 +147,7 @@ module _ (t₀ o : List ℕ) (first : Bool) (t : List ℕ) (k : Bool) (i : ℕ) 
       → valueIn (2 ^ 64) after + (2 ^ 64) ^ length t₀ * bit out ≡ valueIn (2 ^ 64) t₀ + valueIn (2 ^ 64) (take (length t₀) o) + bit first
   rest-value after out r =
       rw (limbs-from (2 ^ 64) o i (length t₀) hi ho)
-      (sum-joined ((2 ^ 64) ^ i) _ _ _ (bit first) (bit k) (valueIn (2 ^ 64) t) _ (a .value) (rw (a .same-length) at (added-at-value i t (drop i o) k after out within r)))
+      (sum-joined ((2 ^ 64) ^ i) _ _ _ (bit first) (bit k) (valueIn (2 ^ 64) t) _ (lowest-value t₀ o first t k i a) (rw (a .same-length) at (added-at-value i t (drop i o) k after out within r)))
 
   pub rest-added : (part : List ℕ) (out : Bool) → Added (drop i t) (drop i o) k part out → Added t₀ o first (putMid i (length t - i) t part) out
   rest-added part out r = record {

@@ -9,10 +9,11 @@ use lib.ListN.{length, take, drop, getD, set}
 use Rattle.limb.specs.Carry.{bit}
 use Rattle.limb.specs.Value.{valueOf}
 
--- limb i of before, of the operand and the carry are limb i of after with the carry out on top; the other limbs stay
-pub record LimbAdded (i : ℕ) (before operand : List ℕ) (carry : Bool) (after : List ℕ) (out : Bool) : Type 0 where
-  pub others : after ≡ set before i (getD after i 0)
-  pub limb : getD after i 0 + 2 ^ 64 * bit out ≡ getD before i 0 + getD operand i 0 + bit carry
+-- limbs i to j - 1 of the operand, worth its lowest j less its lowest i, and a carry at limb i are added to before, which gives after with the
+-- carry out at limb j
+pub record LimbsAdded (i j : ℕ) (before operand : List ℕ) (carry : Bool) (after : List ℕ) (out : Bool) : Type 0 where
+  pub same-length : length after ≡ length before
+  pub value : valueOf after + valueOf (take i operand) + (2 ^ 64) ^ j * bit out ≡ valueOf before + valueOf (take j operand) + (2 ^ 64) ^ i * bit carry
 
 -- before + operand + carry is after with the carry out on top. The operand counts as far as the target goes.
 pub record Added (before operand : List ℕ) (carry : Bool) (after : List ℕ) (out : Bool) : Type 0 where

@@ -1,21 +1,23 @@
 -- `run::add_each` is right since after i turns the target, with the carry on top of its lowest i limbs, is worth what it was, the
 -- operand's lowest i limbs and the carry in. Assumes nothing.
+use mathlib.Core.Path.{refl}
 use Prim.Native.Nat.{_-_, _≤_}
 use native.Mathlib.Omega.{arith}
 use lib.ListN.{length, length-set}
-use Rattle.run.proofs.Adding.{AddedTo, none-added-to, limb-added, all-added}
+use Rattle.run.specs.Sum.{LimbsAdded}
+use Rattle.run.proofs.Adding.{none-added-yet, limb-added, added-on, all-added}
 use borrow.Author.Needs.{needs}
 use Rattle.run.proofs.sum.add_each.Statement.{statement}
 use Rattle.run.proofs.sum.add_each.Tie as tie
 
 abbrev Inv-loop : tie.InvT-loop
-Inv-loop target₀ operand carry up₀ i₀ target up i = (i ≤ length target₀) × AddedTo i target₀ operand carry target up
+Inv-loop target₀ operand carry up₀ i₀ target up i = (i ≤ length target₀) × LimbsAdded 0 i target₀ operand carry target up
 
 abbrev μ-loop : tie.MeasureT-loop
 μ-loop target₀ operand carry up₀ i₀ target up i = length target - i
 
 loop-holds : tie.Need-loop-holds Inv-loop μ-loop
-loop-holds c = (search needs, none-added-to _ _ _)
+loop-holds c = (search needs, none-added-yet _ _ _)
 
 mul-add-carry : tie.Need-mul-add-carry Inv-loop μ-loop
 mul-add-carry c = search needs
@@ -45,7 +47,8 @@ loop-again : tie.Need-loop-again Inv-loop μ-loop
 loop-again c = (
   search needs,
   let l = c .before .before .before .before .loop in
-      limb-added _ _ _ (l .target) (l .up) (l .i) _ _ _ (omega arith) (c .before .limb-at .ensures) (c .add-carry .ensures) (l .inv .1),
+      added-on _ _ (l .target) _ 0 (l .i) _ _ _ (l .up) _ refl (l .inv .1)
+      (limb-added (l .target) _ (l .up) (l .i) _ _ _ (omega arith) (c .before .limb-at .ensures) (c .add-carry .ensures)),
 )
 
 same-length : tie.Need-same-length Inv-loop μ-loop
