@@ -9,6 +9,7 @@ ghost use lib.ListN.{length};
 ghost use Rattle.checks.specs.Number.{operandOf};
 ghost use Rattle.checks.specs.Check.{accepted, modeHolds, topBitHolds, spareBitsHold, pairRefusal, singleRefusal, comparedRefusal, convertedRefusal, aloneRefusal};
 ghost use Rattle.checks.specs.Passes.{TargetPasses, Passes};
+ghost use Rattle.admission.specs.Sizes.{SizesPass};
 
 // Whether a target passes tests 2 and 3.
 fn target_passes(p: u64, n: usize) -> bool
@@ -18,6 +19,19 @@ fn target_passes(p: u64, n: usize) -> bool
         return false;
     }
     n as u64 == (p + 63) / 64
+}
+
+// Whether the precisions and lengths of two operands and a target pass tests 2 and 3.
+pub fn sizes_pass(a: u64, m: usize, b: u64, k: usize, p: u64, n: usize) -> bool
+    ensures { λ r. ⌜ (r ≡ true → SizesPass a m b k p n) ⌝ }
+{
+    if !target_passes(p, n) {
+        return false;
+    }
+    if !target_passes(a, m) {
+        return false;
+    }
+    target_passes(b, k)
 }
 
 // Whether the limbs of a regular number pass test 5.
@@ -31,13 +45,11 @@ fn limbs_pass(p: u64, l: &[u64]) -> bool
     checks::low_holds(p, l[0])
 }
 
-// Whether an operand passes tests 2 to 5.
-fn passes(x: Number, l: &[u64]) -> bool
+// Whether an operand that passes tests 2 and 3 passes tests 4 and 5.
+fn value_passes(x: Number, l: &[u64]) -> bool
+    requires { ⌜ TargetPasses (x .precision) (length (now l)) ⌝ }
     ensures { λ r. ⌜ (r ≡ true → Passes (operandOf x (now (l .entry)))) ⌝ }
 {
-    if !target_passes(x.precision, l.len()) {
-        return false;
-    }
     if !checks::exponent_holds(x) {
         return false;
     }
@@ -45,6 +57,16 @@ fn passes(x: Number, l: &[u64]) -> bool
         return true;
     }
     limbs_pass(x.precision, l)
+}
+
+// Whether an operand passes tests 2 to 5.
+fn passes(x: Number, l: &[u64]) -> bool
+    ensures { λ r. ⌜ (r ≡ true → Passes (operandOf x (now (l .entry)))) ⌝ }
+{
+    if !target_passes(x.precision, l.len()) {
+        return false;
+    }
+    value_passes(x, l)
 }
 
 // Whether two operands pass.
@@ -67,17 +89,38 @@ fn one_passes(mode: u8, x: Number, xl: &[u64]) -> bool
     passes(x, xl)
 }
 
-// Whether a mode, two operands and a target pass.
-fn pair_passes(mode: u8, x: Number, xl: &[u64], y: Number, yl: &[u64], p: u64, n: usize) -> bool
+// Whether two operands that pass tests 2 and 3 pass tests 4 and 5.
+fn values_pass(x: Number, xl: &[u64], y: Number, yl: &[u64]) -> bool
+    requires { ⌜ TargetPasses (x .precision) (length (now xl)) × TargetPasses (y .precision) (length (now yl)) ⌝ }
+    ensures { λ r. ⌜ (r ≡ true → Passes (operandOf x (now (xl .entry))) × Passes (operandOf y (now (yl .entry)))) ⌝ }
+{
+    if !value_passes(x, xl) {
+        return false;
+    }
+    value_passes(y, yl)
+}
+
+// Whether a mode, two operands and a target pass, where it is told whether their sizes do.
+fn pair_passes(
+    sized: bool,
+    mode: u8,
+    x: Number,
+    xl: &[u64],
+    y: Number,
+    yl: &[u64],
+    p: u64,
+    n: usize,
+) -> bool
+    requires { ⌜ (sized ≡ true → SizesPass (x .precision) (length (now xl)) (y .precision) (length (now yl)) p n) ⌝ }
     ensures { λ r. ⌜ (r ≡ true → pairRefusal mode (operandOf x (now (xl .entry))) (operandOf y (now (yl .entry))) p n ≡ accepted) ⌝ }
 {
     if checks::MOST_MODE < mode {
         return false;
     }
-    if !target_passes(p, n) {
+    if !sized {
         return false;
     }
-    both_pass(x, xl, y, yl)
+    values_pass(x, xl, y, yl)
 }
 
 // Whether a mode, an operand and a target pass.
@@ -90,8 +133,9 @@ fn single_passes(mode: u8, x: Number, xl: &[u64], p: u64, n: usize) -> bool
     one_passes(mode, x, xl)
 }
 
-// Refusals 1 to 5 of two operands under a mode, with a target of p digits in n limbs.
+// Refusals 1 to 5 of two operands under a mode, with a target of p digits in n limbs, where it is told whether their sizes pass.
 pub fn check_pair(
+    sized: bool,
     mode: u8,
     x: Number,
     xl: &[u64],
@@ -100,9 +144,10 @@ pub fn check_pair(
     p: u64,
     n: usize,
 ) -> Refusal
+    requires { ⌜ (sized ≡ true → SizesPass (x .precision) (length (now xl)) (y .precision) (length (now yl)) p n) ⌝ }
     ensures { λ r. ⌜ r ≡ pairRefusal mode (operandOf x (now (xl .entry))) (operandOf y (now (yl .entry))) p n ⌝ }
 {
-    if pair_passes(mode, x, xl, y, yl, p, n) {
+    if pair_passes(sized, mode, x, xl, y, yl, p, n) {
         return Refusal { rule: 0, place: 0 };
     }
     refusals::refuse_pair(

@@ -8,6 +8,7 @@ use Rattle.checks.specs.declared.Number.{Number}
 use Rattle.checks.specs.declared.Kind.{Kind}
 use Rattle.checks.specs.declared.Kind.the-variants.{Regular, Zero}
 use Rattle.checks.specs.Number.{isZeroKind, operandOf, turnedNumber}
+use Rattle.depth.specs.Depth.{Operation}
 use Rattle.order.specs.declared.Compared.{Compared}
 use Rattle.order.specs.Order.{numberOf, comparedOf}
 use Rattle.doubles.specs.declared.Converted.{Converted}
@@ -19,7 +20,7 @@ use Rattle.lines.specs.declared.Head.{Head}
 use Rattle.lines.specs.declared.Written.{Written}
 use Rattle.lines.specs.Writing.{writtenOf, roomAfter}
 use Rattle.reports.specs.declared.report.Sum.{Sum}
-use Rattle.reports.specs.Summed.{Rerounded}
+use Rattle.reports.specs.Summed.{Summed, Rerounded}
 use Rattle.plain.specs.declared.PlainNumber.{PlainNumber}
 use Rattle.plain.specs.declared.PlainSum.{PlainSum}
 use Rattle.plain.specs.declared.PlainOrder.{PlainOrder}
@@ -52,6 +53,11 @@ unfolding sumFrom
 sum-told s n t number ternary = rw (number, ternary)
 
 -- what is promised of the kernel's own numbers and sum holds of the plain ones that say them
+pub summed-told : (f : Operation) (mode : ℕ) (x y : PlainNumber) (xl yl : List ℕ) (p : ℕ) (entry exit : List ℕ) (a b : Number) (s : Sum) (r : PlainSum)
+    → a ≡ numberFrom x → b ≡ numberFrom y → sumFrom r ≡ s → Summed f mode a xl b yl p entry exit s
+    → Summed f mode (numberFrom x) xl (numberFrom y) yl p entry exit (sumFrom r)
+summed-told f mode x y xl yl p entry exit a b s r first second whole h = rw (sym first, sym second, whole) h
+
 pub rerounded-told : (mode : ℕ) (x : PlainNumber) (xl : List ℕ) (p : ℕ) (entry exit : List ℕ) (a : Number) (s : Sum) (r : PlainSum)
     → a ≡ numberFrom x → sumFrom r ≡ s → Rerounded mode a xl p entry exit s → Rerounded mode (numberFrom x) xl p entry exit (sumFrom r)
 rerounded-told mode x xl p entry exit a s r first whole h = rw (sym first, whole) h

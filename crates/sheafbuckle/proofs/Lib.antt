@@ -1,5 +1,4 @@
 -- What the proofs of several functions use, and that each promise fixes one answer.
-mod Turning
 mod Trim
 pub mod Agree
 pub mod Examples

@@ -8,6 +8,7 @@ ghost use Rattle.numbers.specs.Operand.{WellFormed};
 ghost use Rattle.rounding.specs.Mode.{modeOf};
 ghost use Rattle.depth.specs.Depth.{plus, minus};
 ghost use Rattle.checks.specs.Number.{isZeroKind, operandOf};
+ghost use Rattle.admission.specs.Sizes.{SizesPass};
 ghost use Rattle.reports.specs.Summed.{Reported, Summed, Rerounded};
 ghost use Rattle.descent.specs.Ready.{Room};
 use checks::Number;
@@ -47,8 +48,10 @@ fn is_narrow(p: u64, x: Number, y: Number) -> bool
 }
 
 // x + y, rounded to p digits: at once where the first column fixes it, or the columns that fill the target.
-// Any other way has numbers and slices of its own, so that these need not stand in memory.
-pub fn add<'a>(
+// Any other way has numbers and slices of its own, so that these need not stand in memory; and the sizes are
+// tested where the call arrives, so that the words of a slice are not copied as pairs on the way.
+fn add_sized<'a>(
+    sized: bool,
     mode: u8,
     x: Number,
     xl: &'a [u64],
@@ -57,9 +60,10 @@ pub fn add<'a>(
     p: u64,
     target: &mut [u64],
 ) -> Sum
+    requires { ⌜ (sized ≡ true → SizesPass (x .precision) (length (now xl)) (y .precision) (length (now yl)) p (length (now target))) ⌝ }
     ensures { λ r. ⌜ Summed plus mode x (now (xl .entry)) y (now (yl .entry)) p (now (target .entry)) (now (target .exit)) r ⌝ }
 {
-    let refusal = admission::check_pair(mode, x, xl, y, yl, p, target.len());
+    let refusal = admission::check_pair(sized, mode, x, xl, y, yl, p, target.len());
     if refusal.rule != 0 {
         return reports::refused(refusal, 0, 0, 0);
     }
@@ -95,6 +99,23 @@ pub fn add<'a>(
     )
 }
 
+// x + y, rounded to p digits.
+pub fn add<'a>(
+    mode: u8,
+    x: Number,
+    xl: &'a [u64],
+    y: Number,
+    yl: &'a [u64],
+    p: u64,
+    target: &mut [u64],
+) -> Sum
+    ensures { λ r. ⌜ Summed plus mode x (now (xl .entry)) y (now (yl .entry)) p (now (target .entry)) (now (target .exit)) r ⌝ }
+{
+    let n = target.len();
+    let sized = admission::sizes_pass(x.precision, xl.len(), y.precision, yl.len(), p, n);
+    add_sized(sized, mode, x, xl, y, yl, p, target)
+}
+
 // x - y, rounded to p digits: the sum with the second sign turned.
 pub fn subtract<'a>(
     mode: u8,
@@ -107,7 +128,10 @@ pub fn subtract<'a>(
 ) -> Sum
     ensures { λ r. ⌜ Summed minus mode x (now (xl .entry)) y (now (yl .entry)) p (now (target .entry)) (now (target .exit)) r ⌝ }
 {
-    add(mode, x, xl, checks::turn_sign(y), yl, p, target)
+    let turned = checks::turn_sign(y);
+    let n = target.len();
+    let sized = admission::sizes_pass(x.precision, xl.len(), turned.precision, yl.len(), p, n);
+    add_sized(sized, mode, x, xl, turned, yl, p, target)
 }
 
 // x alone, rounded to p digits, at once where the first column fixes it: reports as the addition of a zero.

@@ -10,19 +10,20 @@ use Rattle.admission.proofs.pair_passes.Tie as tie
 returns : tie.Need-returns
 returns c = λ h. absurd (false≢true h)
 
-target-passes-requires : tie.Need-target-passes-requires
-target-passes-requires c κs = search needs
-
 returns-2 : tie.Need-returns-2
 returns-2 c = λ h. absurd (false≢true h)
 
-both-pass-requires : tie.Need-both-pass-requires
-both-pass-requires c κs = search needs
+values-pass-requires : tie.Need-values-pass-requires
+values-pass-requires c κs =
+    let sizes = c .before .before .before .before .pre (not-false _ (c .if2 .left)) in
+    (sizes .first, sizes .second)
 
 returns-3 : tie.Need-returns-3
 unfolding modeHolds
-returns-3 c = λ h. let b = c .both-pass .ensures h in pair-passes _ _ _ _ _ (le-leb _ 3 (c .before .before .before .if1 .left)) (b .0) (b .1) (c .before .before .target-passes .ensures (not-false _ (c .before .if2 .left)))
+returns-3 c =
+    λ h. let b = c .values-pass .ensures h in
+    pair-passes _ _ _ _ _ (le-leb _ 3 (c .before .before .if1 .left)) (b .0) (b .1) (c .before .before .before .before .before .pre (not-false _ (c .before .if2 .left)) .target)
 
 pub pair-passes-spec : {M : Type 1} → statement M
 pair-passes-spec =
-    tie.close (tie.spec returns target-passes-requires returns-2 both-pass-requires returns-3)
+    tie.close (tie.spec returns returns-2 values-pass-requires returns-3)

@@ -1,0 +1,40 @@
+-- `admission::sizes_pass`: one after the other. Assumes nothing.
+use mathlib.Core.Bool.{false≢true}
+use borrow.Author.Tests.{not-false}
+use borrow.Author.Needs.{needs}
+use Rattle.admission.proofs.sizes_pass.Statement.{statement}
+use Rattle.admission.proofs.sizes_pass.Tie as tie
+
+target-passes-requires : tie.Need-target-passes-requires
+target-passes-requires c κs = search needs
+
+returns : tie.Need-returns
+returns c = λ h. absurd (false≢true h)
+
+target-passes-requires-2 : tie.Need-target-passes-requires-2
+target-passes-requires-2 c κs = search needs
+
+returns-2 : tie.Need-returns-2
+returns-2 c = λ h. absurd (false≢true h)
+
+target-passes-requires-3 : tie.Need-target-passes-requires-3
+target-passes-requires-3 c κs = search needs
+
+returns-3 : tie.Need-returns-3
+returns-3 c =
+    λ h. record {
+      first = c .before .before .target-passes2 .ensures (not-false _ (c .before .if2 .left));
+      second = c .target-passes3 .ensures h;
+      target = c .before .before .before .before .target-passes .ensures (not-false _ (c .before .before .before .if1 .left));
+    }
+
+pub sizes-pass-spec : {M : Type 1} → statement M
+sizes-pass-spec =
+    tie.close
+    (tie.spec
+    target-passes-requires
+    returns
+    target-passes-requires-2
+    returns-2
+    target-passes-requires-3
+    returns-3)
