@@ -106,7 +106,8 @@ unfolding bit
 sum-size u low sum true h l e = size-is (u + low) 64 (omega arith) (omega arith)
 sum-size u low sum false h l e = size-is (u + low) 63 (omega arith) (omega arith)
 
-here : (pair : Pair) (x y : Operand) → pair ≡ pairOf x y → {row : Row} → rowOf pair 1 ≡ row → rowOf (pairOf x y) 1 ≡ row
+-- the row of a pair is that of its operands
+pub here : (pair : Pair) (x y : Operand) → pair ≡ pairOf x y → {row : Row} → rowOf pair 1 ≡ row → rowOf (pairOf x y) 1 ≡ row
 here pair x y is e = ap (λ (s : Pair). rowOf s 1) (sym is) ∙ e
 
 module _ (p : ℕ) (pair : Pair) (u : ℕ) (f : Facing p pair u) where
