@@ -1,9 +1,9 @@
--- A look at two operands: they are in order by their exponents, and the column itself shows the first to be the larger. Assumes nothing.
+-- A look at two operands: they are in order by their exponents, and what is told of them in order is told of them in their own. Assumes nothing.
 use mathlib.Core.Path.{_≡_, refl, sym, ap, _∙_, subst}
 use mathlib.Core.Logic.{inl, inr}
 use mathlib.Core.Bool.{Bool, true, false, cond, _&&_, _||_, Bool·beq, true≢false}
 use mathlib.Core.List.{List, [], _∷_}
-use Prim.Native.Nat.{ℕ, _+_, _-_, _*_, _/_, _^_, _≤_, _<_, min}
+use Prim.Native.Nat.{ℕ, _+_, _-_, _*_, _/_, _≤_, _<_, min}
 use native.Mathlib.Omega.{arith}
 use borrow.Author.Tests.{lt-ltb, le-ltb, le-leb, lt-leb, ne-eqb}
 use lib.Dec.{ltb, leb, eqb}
@@ -24,17 +24,15 @@ use Rattle.decide.proofs.Decision.{depth-decided}
 use Rattle.checks.specs.declared.Number.{Number}
 use Rattle.checks.specs.Number.{operandOf}
 use Rattle.settle.specs.declared.rows.Pair.{Pair}
-use Rattle.columns.specs.Column.{readTo}
 use Rattle.bridge.specs.Verdict.{pairOf, Ordered}
 use Rattle.bridge.proofs.Told.{top-is}
-use Rattle.descent.specs.Course.{Course}
 use Rattle.ending.specs.Finishing.{Left}
 use Rattle.reports.specs.Signed.{Signed}
-use Rattle.ending.proofs.Handed.{ordered-pair, beq-turned, limbs-some, course-first}
+use Rattle.ending.proofs.Handed.{ordered-pair, beq-turned, limbs-some}
 use Rattle.narrow.specs.declared.seeing.Seen.{Seen}
 use Rattle.narrow.specs.Sighting.{topLimb, Held, Facing, Told}
 use Rattle.narrow.specs.Looked.{Looked}
-use Rattle.narrow.proofs.Tops.{top-read, top-led}
+use Rattle.narrow.proofs.Tops.{top-led}
 
 -- the test of which is larger is by exponents first
 pub order-told : (a b u v : ℕ) → ((ltb a b || (eqb a b && ltb u v)) ≡ true → a ≤ b) × ((ltb a b || (eqb a b && ltb u v)) ≡ false → b ≤ a)
@@ -83,26 +81,13 @@ module _ (mode p : ℕ) (least : leastPrecision ≤ p) where
 
   -- what is seen of two operands in order
   abbrev pub Says : Bool → Pair → ℕ → ℕ → Seen → Type 0
-  Says negative pair u v s =
-      (s .open ≡ false → pair .same ≡ false → v / 2 ^ pair .gap < u)
-      × (s .open ≡ false → (x y : Operand) → Held x y pair u v → negative ≡ x .negative → Told o p x y (s .limb) (s .placed))
+  Says negative pair u v s = s .open ≡ false → (x y : Operand) → Held x y pair u v → negative ≡ x .negative → Told o p x y (s .negative) (s .limb) (s .placed)
 
   module _ (x y : Operand) (d : Ordered x y) (e : y .isZero ≡ false) (u v : ℕ) (f : u ≡ topLimb (x .limbs)) (g : v ≡ topLimb (y .limbs)) (s : Seen) (says : Says (x .negative) (pairOf x y) u v s) (closed : s .open ≡ false) where
-    larger : pairOf x y .same ≡ false → readTo 1 (pairOf x y .gap) (y .limbs) < readTo 1 0 (x .limbs)
-    larger h =
-        rw (top-read (pairOf x y .gap) (y .limbs) (d .second .limb) (limbs-some y (d .second)), top-read 0 (x .limbs) (d .first .limb) (limbs-some x (d .first)), ← f, ← g)
-        (whole u (says .0 closed h))
-      where
-        whole : {n : ℕ} (m : ℕ) → n < m → n < m / 2 ^ 0
-        whole m h = omega arith
+    told : Told o p x y (s .negative) (s .limb) (s .placed)
+    told = says closed x y (record { ordered = d; regular = e; pair-is = refl; first-top = f; second-top = g }) refl
 
-    course : Course x y 0
-    course = course-first x y d larger
-
-    told : Told o p x y (s .limb) (s .placed)
-    told = says .1 closed x y (record { course = course; regular = e; pair-is = refl; first-top = f; second-top = g }) refl
-
-    pub ordered-looked : (i j : ℕ) → i ≡ 1 → j ≡ cond (ltb (x .exponent - y .exponent) 64) 1 0 → Looked o p x y (record { seen = s; negative = x .negative; first = i; second = j })
+    pub ordered-looked : (i j : ℕ) → i ≡ 1 → j ≡ cond (ltb (x .exponent - y .exponent) 64) 1 0 → Looked o p x y (record { seen = s; negative = s .negative; first = i; second = j })
     ordered-looked i j a b = record {
       depth = depth-one o p positive x y d (told .fixed);
       left = told .left;
@@ -130,7 +115,7 @@ module _ (mode p : ℕ) (least : leastPrecision ≤ p) where
   pub numbers-looked : (x : Number) (xl : List ℕ) (y : Number) (yl : List ℕ) → WellFormed (operandOf x xl) → operandOf x xl .isZero ≡ false → WellFormed (operandOf y yl) → operandOf y yl .isZero ≡ false
       → (c d u v : ℕ) → c ≡ counted (x .exponent) → d ≡ counted (y .exponent) → d ≤ c → u ≡ topLimb xl → v ≡ topLimb yl
       → (s : Seen) → Says (x .negative) (record { same = Bool·beq (x .negative) (y .negative); first = x .precision; second = y .precision; gap = c - d; top = c }) u v s → s .open ≡ false
-      → Looked o p (operandOf x xl) (operandOf y yl) (record { seen = s; negative = x .negative; first = 1; second = cond (ltb (c - d) 64) 1 0 })
+      → Looked o p (operandOf x xl) (operandOf y yl) (record { seen = s; negative = s .negative; first = 1; second = cond (ltb (c - d) 64) 1 0 })
   unfolding operandOf
   numbers-looked x xl y yl gx rx gy ry c d u v ce de h ue ve s says closed =
       let pe = ordered-pair x xl y yl c d ry ce de in
@@ -191,15 +176,15 @@ module _ (mode p : ℕ) (least : leastPrecision ≤ p) (most : p ≤ 62) (x : Nu
           high = rw (te, f, ae) (gx .regular rx .most);
         }
 
-    pub looked : (negative : Bool) (s : Seen) (i j : ℕ) → negative ≡ cond swapped (y .negative) (x .negative) → Says mode p least negative pair high deep s → i ≡ cond swapped (boolByte (ltb (t - l) 64)) 1 → j ≡ cond swapped 1 (boolByte (ltb (t - l) 64))
-        → s .open ≡ false → Looked (modeOf mode) p (operandOf x xl) (operandOf y yl) (record { seen = s; negative = negative; first = i; second = j })
-    looked negative s i j he says ie je closed = go swapped refl
+    pub looked : (larger : Bool) (s : Seen) (i j : ℕ) → larger ≡ cond swapped (y .negative) (x .negative) → Says mode p least larger pair high deep s → i ≡ cond swapped (boolByte (ltb (t - l) 64)) 1 → j ≡ cond swapped 1 (boolByte (ltb (t - l) 64))
+        → s .open ≡ false → Looked (modeOf mode) p (operandOf x xl) (operandOf y yl) (record { seen = s; negative = s .negative; first = i; second = j })
+    looked larger s i j he says ie je closed = go swapped refl
       where
-        go : (w : Bool) → swapped ≡ w → Looked (modeOf mode) p (operandOf x xl) (operandOf y yl) (record { seen = s; negative = negative; first = i; second = j })
+        go : (w : Bool) → swapped ≡ w → Looked (modeOf mode) p (operandOf x xl) (operandOf y yl) (record { seen = s; negative = s .negative; first = i; second = j })
         go true f =
-            rw (ie, je, f, flag-told (ltb (t - l) 64), he, f, te, le, f)
-            (looked-turned mode p least (operandOf x xl) (operandOf y yl) rx ry s (y .negative) 1 (cond (ltb (b - a) 64) 1 0)
+            rw (ie, je, f, flag-told (ltb (t - l) 64), te, le, f)
+            (looked-turned mode p least (operandOf x xl) (operandOf y yl) rx ry s (s .negative) 1 (cond (ltb (b - a) 64) 1 0)
             (numbers-looked mode p least y yl x xl gy ry gx rx b a v u be ae (order .0 f) ve ue s (rw (he, me, ne, te, le, high-is, deep-is, f, beq-turned (x .negative) (y .negative)) at says) closed))
         go false f =
-            rw (ie, je, f, flag-told (ltb (t - l) 64), he, f, te, le, f)
+            rw (ie, je, f, flag-told (ltb (t - l) 64), te, le, f)
             (numbers-looked mode p least x xl y yl gx rx gy ry a b u v ae be (order .1 f) ue ve s (rw (he, me, ne, te, le, high-is, deep-is, f) at says) closed)

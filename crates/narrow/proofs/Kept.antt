@@ -71,7 +71,7 @@ module _ (p : ℕ) (pair : Pair) (u v : ℕ) (f : Facing p pair u) (k : AllKept 
   clean x y h = difference-clean u (v / 2 ^ pair .gap) (2 ^ (64 - p)) first second
     where
       d : Ordered x y
-      d = h .course .ordered
+      d = h .ordered
 
       first-is : pair .first ≡ x .precision
       first-is = ap (λ (s : Pair). s .first) (h .pair-is) ∙ pair-first x y
@@ -101,7 +101,7 @@ module _ (p : ℕ) (pair : Pair) (u v : ℕ) (f : Facing p pair u) (k : AllKept 
   near : leb 64 (pair .gap) ≡ false
   near = lt-leb 64 (pair .gap) gap-few
 
-  whole : isWhole pair ≡ true
+  pub whole : isWhole pair ≡ true
   whole = rw (first-read, second-read) refl
 
   no-hole : isHole pair ≡ false
@@ -125,5 +125,5 @@ module _ (p : ℕ) (pair : Pair) (u v : ℕ) (f : Facing p pair u) (k : AllKept 
     -- the limb that every mode rounds it to tells the sum
     pub exact-told : (limb : ℕ) (placed : Placed)
         → (D % 2 ^ (64 - p) ≡ 0 → (mode : ℕ) (negative : Bool) → (placed ≡ roundedPlaced mode p negative (pair .top - 128) false (D ∷ []) 0 false) × (limb ∷ [] ≡ roundedLimbs mode p negative (pair .top - 128) false (D ∷ []) 0 false))
-        → (mode : ℕ) (x y : Operand) → Held x y pair u v → Told (modeOf mode) p x y limb placed
-    exact-told limb placed settled mode x y h = let e = settled (clean x y h) mode (x .negative) in told p pair u v f column found mode (x .negative) limb placed (e .0) (e .1) x y h refl
+        → (mode : ℕ) (negative : Bool) (x y : Operand) → Held x y pair u v → negative ≡ x .negative → Told (modeOf mode) p x y negative limb placed
+    exact-told limb placed settled mode negative x y h sign = let e = settled (clean x y h) mode negative in told p pair u v f column found mode negative limb placed (e .0) (e .1) x y h sign

@@ -5,5 +5,6 @@ pub mod Settled
 pub mod Passed
 pub mod Tops
 pub mod Kept
+pub mod Cancels
 pub mod InOrder
 pub mod Lone

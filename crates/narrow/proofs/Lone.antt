@@ -118,7 +118,7 @@ module _ (p top u : ℕ) (l : Lone p top u) where
         go false e = unread-says p positive o x z d lead (rw D (beyond (sym (ap (λ (t : Bool). t || rest) e) ∙ fixed))) (long-row x z (b .zero) (length-is e))
 
     pub alone-told : (mode : ℕ) (negative : Bool) (limb : ℕ) (placed : Placed) → placed ≡ roundedPlaced mode p negative (top - 128) false (u ∷ []) 0 false → limb ∷ [] ≡ roundedLimbs mode p negative (top - 128) false (u ∷ []) 0 false
-        → (x z : Operand) → Beside x z first top u → negative ≡ x .negative → Told (modeOf mode) p x z limb placed
+        → (x z : Operand) → Beside x z first top u → negative ≡ x .negative → Told (modeOf mode) p x z negative limb placed
     alone-told mode negative limb placed e g x z b sign =
         run-told p (l .least) (l .most) top (l .low) (l .high) false u some 0 false mode negative limb placed e g x z (b .exponent-is) sign (says (modeOf mode) x z b)
 
@@ -129,8 +129,8 @@ module _ (p : ℕ) (least : leastPrecision ≤ p) (most : p ≤ 62) (x : Number)
   unfolding operandOf
   lone = record { least = least; most = most; led = rw ue (top-led (operandOf x xl) g r); low = rw te (g .regular r .least); high = rw te (g .regular r .most) }
 
-  pub alone-looked : (mode : ℕ) (s : Seen) → (s .open ≡ false → (v z : Operand) → Beside v z (x .precision) top u → x .negative ≡ v .negative → Told (modeOf mode) p v z (s .limb) (s .placed))
-      → s .open ≡ false → (z : Operand) → WellFormed z → z .isZero ≡ true → Looked (modeOf mode) p (operandOf x xl) z (record { seen = s; negative = x .negative; first = 1; second = 0 })
+  pub alone-looked : (mode : ℕ) (s : Seen) → (s .open ≡ false → (v z : Operand) → Beside v z (x .precision) top u → x .negative ≡ v .negative → Told (modeOf mode) p v z (s .negative) (s .limb) (s .placed))
+      → s .open ≡ false → (z : Operand) → WellFormed z → z .isZero ≡ true → Looked (modeOf mode) p (operandOf x xl) z (record { seen = s; negative = s .negative; first = 1; second = 0 })
   unfolding operandOf
   alone-looked mode s says closed z h zero =
       let P : 0 < p = omega (arith, two-digits, least) in

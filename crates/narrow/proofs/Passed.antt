@@ -65,7 +65,7 @@ module _ (p : ℕ) (least : leastPrecision ≤ p) (most : p ≤ 62) (top : ℕ) 
     pub run-told : (mode : ℕ) (negative : Bool) (left : ℕ) (placed : Placed) → placed ≡ roundedPlaced mode p negative unit carry (limb ∷ []) guard more → left ∷ [] ≡ roundedLimbs mode p negative unit carry (limb ∷ []) guard more
         → (x y : Operand) → top ≡ x .exponent → negative ≡ x .negative
         → (decideAt (modeOf mode) p x y 1 ≡ true) × (add (modeOf mode) p x y ≡ rounded (way (modeOf mode) (x .negative)) p (x .exponent - 128 - 1) (x .negative) N)
-        → Told (modeOf mode) p x y left placed
+        → Told (modeOf mode) p x y negative left placed
     unfolding runAnswer
     run-told mode negative left placed e g x y height sign says =
         record {
@@ -74,7 +74,7 @@ module _ (p : ℕ) (least : leastPrecision ≤ p) (most : p ≤ 62) (top : ℕ) 
             told = e ∙ placed-passed mode p negative unit carry (limb ∷ []) guard more passes ∙ ap placedOf is;
             limbs = g ∙ limbs-passed mode p negative unit carry (limb ∷ []) guard more passes ∙ ap (limbsAfter p) is;
           };
-          signed = rw (says .1) (rounded-signed _ _ _ _ _);
+          signed = rw (sign, says .1) (rounded-signed _ _ _ _ _);
         }
       where
         is : runAnswer mode p negative unit N ≡ add (modeOf mode) p x y

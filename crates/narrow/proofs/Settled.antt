@@ -106,12 +106,8 @@ unfolding bit
 sum-size u low sum true h l e = size-is (u + low) 64 (omega arith) (omega arith)
 sum-size u low sum false h l e = size-is (u + low) 63 (omega arith) (omega arith)
 
-either : (a b c : Bool) → ((a || b) || c) ≡ true → a ≡ false → b ≡ false → c ≡ true
-either true b c t e f = absurd (true≢false e)
-either false true c t e f = absurd (true≢false f)
-either false false c t e f = t
-
-here : (pair : Pair) (x y : Operand) → pair ≡ pairOf x y → {row : Row} → rowOf pair 1 ≡ row → rowOf (pairOf x y) 1 ≡ row
+-- the row of a pair is that of its operands
+pub here : (pair : Pair) (x y : Operand) → pair ≡ pairOf x y → {row : Row} → rowOf pair 1 ≡ row → rowOf (pairOf x y) 1 ≡ row
 here pair x y is e = ap (λ (s : Pair). rowOf s 1) (sym is) ∙ e
 
 module _ (p : ℕ) (pair : Pair) (u : ℕ) (f : Facing p pair u) where
@@ -142,15 +138,14 @@ module _ (p : ℕ) (pair : Pair) (u : ℕ) (f : Facing p pair u) where
         few true = unfold bit in omega (arith, P)
         few false = unfold bit in omega (arith, P)
 
-    pub sum-settles : (whole hole inside : Bool) → whole ≡ isWhole pair → hole ≡ isHole pair
-        → (inside ≡ true → (1 ≤ sum % 2 ^ (64 + boolByte carry - p - 1)) × (sum % 2 ^ (64 + boolByte carry - p - 1) + 1 < 2 ^ (64 + boolByte carry - p - 1)))
-        → ((whole || hole) || inside) ≡ true → Settles p pair (u + low) (record { fixed = (whole || hole) || inside; carry = carry; limb = sum; guard = 0; more = leb 64 (pair .gap) })
-    sum-settles whole hole inside ew eh i t = plain p pair (u + low) ((whole || hole) || inside) carry sum (leb 64 (pair .gap)) e sum-pos (all (sum-case pair (f .second-some) same))
+    pub sum-settles : (fixed : Bool) → (isWhole pair ≡ false → isHole pair ≡ false → (1 ≤ sum % 2 ^ (64 + boolByte carry - p - 1)) × (sum % 2 ^ (64 + boolByte carry - p - 1) + 1 < 2 ^ (64 + boolByte carry - p - 1)))
+        → Settles p pair (u + low) (record { fixed = fixed; carry = carry; limb = sum; guard = 0; more = leb 64 (pair .gap) })
+    sum-settles fixed i = plain p pair (u + low) fixed carry sum (leb 64 (pair .gap)) e sum-pos (all (sum-case pair (f .second-some) same))
       where
         all : SumCase pair → All p pair (u + low) (2 * ((u + low) * 2 ^ 64) + bit (leb 64 (pair .gap)))
         all (read row g) o x y d reg is lead D = rw (g, ← D) (exact-says p P o x y d lead (here pair x y is row))
         all (apart row g) o x y d reg is lead D = rw (g, ← D) (unfold bit in hole-sum-says p P o x y d lead (f .most) (here pair x y is row) (ap (λ (s : Pair). s .same) (sym is) ∙ same))
-        all (inner next most row a b) o x y d reg is lead D = rw (← D) (plus-says p P o x y d lead (rw D (sum-inside (rw (bit-byte carry) (i (either whole hole inside t (ew ∙ a) (eh ∙ b)))))) _ next most (here pair x y is row))
+        all (inner next most row a b) o x y d reg is lead D = rw (← D) (plus-says p P o x y d lead (rw D (sum-inside (rw (bit-byte carry) (i a b)))) _ next most (here pair x y is row))
 
   -- ---- a difference
 

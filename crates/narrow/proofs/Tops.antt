@@ -13,7 +13,7 @@ use Rattle.place.specs.Placed.{runRule}
 use Rattle.place.specs.Rounded.{roundedPlaced, roundedLimbs}
 use Rattle.columns.specs.Column.{readTo}
 use Rattle.settle.specs.declared.rows.Pair.{Pair}
-use Rattle.bridge.specs.Verdict.{pairOf, readSum}
+use Rattle.bridge.specs.Verdict.{pairOf, Leads, readSum}
 use Rattle.bridge.proofs.Told.{pair-top}
 use Rattle.ending.proofs.Handed.{limbs-some}
 use Rattle.ending.proofs.Handed as Handed
@@ -39,20 +39,24 @@ unfolding topLimb
 top-first x g = Handed.top-first x g
 
 module _ (x y : Operand) (pair : Pair) (u v : ℕ) (h : Held x y pair u v) where
-  first-read : readTo 1 0 (x .limbs) ≡ u
-  first-read = top-first x (h .course .ordered .first) ∙ sym (h .first-top)
+  pub first-read : readTo 1 0 (x .limbs) ≡ u
+  first-read = top-first x (h .ordered .first) ∙ sym (h .first-top)
 
-  second-read : readTo 1 (pairOf x y .gap) (y .limbs) ≡ v / 2 ^ pair .gap
+  pub second-read : readTo 1 (pairOf x y .gap) (y .limbs) ≡ v / 2 ^ pair .gap
   second-read =
-      top-read (pairOf x y .gap) (y .limbs) (h .course .ordered .second .limb) (limbs-some y (h .course .ordered .second))
+      top-read (pairOf x y .gap) (y .limbs) (h .ordered .second .limb) (limbs-some y (h .ordered .second))
       ∙ ap (λ (n : ℕ). n / 2 ^ pairOf x y .gap) (sym (h .second-top)) ∙ ap (λ (s : Pair). v / 2 ^ s .gap) (sym (h .pair-is))
+
+  pub apart : {b : Bool} → pair .same ≡ b → pairOf x y .same ≡ b
+  apart e = ap (λ (s : Pair). s .same) (sym (h .pair-is)) ∙ e
+
+  -- the top limbs show the larger
+  leads : (pair .same ≡ false → v / 2 ^ pair .gap < u) → Leads x y 1
+  leads ahead e = rw (first-read, second-read) (ahead (ap (λ (s : Pair). s .same) (h .pair-is) ∙ e))
 
   read-is : readSum x y 1 ≡ firstRead pair u v
   read-is = go (pair .same) refl
     where
-      same-is : {b : Bool} → pair .same ≡ b → pairOf x y .same ≡ b
-      same-is e = ap (λ (s : Pair). s .same) (sym (h .pair-is)) ∙ e
-
       sum : pairOf x y .same ≡ true → readSum x y 1 ≡ u + v / 2 ^ pair .gap
       sum e =
           let z : readSum x y 1 ≡ readTo 1 0 (x .limbs) + readTo 1 (pairOf x y .gap) (y .limbs) = unfold readSum in rw (e, h .regular) in
@@ -64,8 +68,8 @@ module _ (x y : Operand) (pair : Pair) (u v : ℕ) (h : Held x y pair u v) where
           z ∙ ap (λ (n : ℕ). n - readTo 1 (pairOf x y .gap) (y .limbs)) first-read ∙ ap (λ (n : ℕ). u - n) second-read
 
       go : (b : Bool) → pair .same ≡ b → readSum x y 1 ≡ firstRead pair u v
-      go true e = sum (same-is e) ∙ sym (read-sum pair u v e)
-      go false e = difference (same-is e) ∙ sym (read-difference pair u v e)
+      go true e = sum (apart e) ∙ sym (read-sum pair u v e)
+      go false e = difference (apart e) ∙ sym (read-difference pair u v e)
 
 -- ---- the run
 
@@ -74,7 +78,7 @@ module _ (p : ℕ) (pair : Pair) (u v : ℕ) (f : Facing p pair u) (r : Column) 
   run-passes = passes p (f .least) (f .most) (pair .top) (f .low) (f .high) (r .carry) (r .limb) (found .settles .led)
 
   pub told : (mode : ℕ) (negative : Bool) (limb : ℕ) (placed : Placed) → placed ≡ roundedPlaced mode p negative (pair .top - 128) (r .carry) (r .limb ∷ []) (r .guard) (r .more)
-      → limb ∷ [] ≡ roundedLimbs mode p negative (pair .top - 128) (r .carry) (r .limb ∷ []) (r .guard) (r .more) → (x y : Operand) → Held x y pair u v → negative ≡ x .negative → Told (modeOf mode) p x y limb placed
+      → limb ∷ [] ≡ roundedLimbs mode p negative (pair .top - 128) (r .carry) (r .limb ∷ []) (r .guard) (r .more) → (x y : Operand) → Held x y pair u v → negative ≡ x .negative → Told (modeOf mode) p x y negative limb placed
   told mode negative limb placed e g x y h sign =
       run-told p (f .least) (f .most) (pair .top) (f .low) (f .high) (r .carry) (r .limb) (found .settles .led) (r .guard) (r .more) mode negative limb placed e g x y (ap (λ (s : Pair). s .top) (h .pair-is) ∙ pair-top x y) sign
-      (found .settles .answers (modeOf mode) x y (h .course .ordered) (h .regular) (h .pair-is) (h .course .larger) (read-is x y pair u v h))
+      (found .settles .answers (modeOf mode) x y (h .ordered) (h .regular) (h .pair-is) (leads x y pair u v h (found .ahead)) (read-is x y pair u v h))

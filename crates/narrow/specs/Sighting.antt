@@ -1,7 +1,7 @@
 -- What the first column of two operands fixes, on the numbers that the code holds of them. Definitions only.
 use Prim.Native.Nat.{ℕ, _+_, _-_, _^_, _≤_, _<_}
 use mathlib.Core.Path.{_≡_}
-use mathlib.Core.Bool.{true, false}
+use mathlib.Core.Bool.{Bool, true, false}
 use mathlib.Core.List.{List, [], _∷_}
 use lib.ListN.{length, getD}
 use Rattle.numbers.specs.Limits.{leastPrecision, mostPrecision, leastExponent, mostExponent}
@@ -11,8 +11,7 @@ use Rattle.rounding.specs.Sum.{add}
 use Rattle.decide.specs.Decide.{decideAt}
 use Rattle.place.specs.declared.Placed.{Placed}
 use Rattle.settle.specs.declared.rows.Pair.{Pair}
-use Rattle.bridge.specs.Verdict.{pairOf}
-use Rattle.descent.specs.Course.{Course}
+use Rattle.bridge.specs.Verdict.{pairOf, Ordered}
 use Rattle.ending.specs.Finishing.{Left}
 use Rattle.reports.specs.Signed.{Signed}
 
@@ -22,7 +21,7 @@ topLimb l = getD l (length l - 1) 0
 
 -- what the code holds of two regular operands in order: the pair, and the two top limbs
 pub record Held (x y : Operand) (pair : Pair) (u v : ℕ) : Type 0 where
-  pub course : Course x y 0
+  pub ordered : Ordered x y
   pub regular : y .isZero ≡ false
   pub pair-is : pair ≡ pairOf x y
   pub first-top : u ≡ topLimb (x .limbs)
@@ -45,8 +44,8 @@ pub record AllKept (p : ℕ) (pair : Pair) : Type 0 where
   pub first : pair .first ≤ p
   pub second : pair .gap + pair .second ≤ p
 
--- the first column fixes the answer, which stands in one limb and has the sign of the first operand
-pub record Told (o : Mode) (p : ℕ) (x y : Operand) (limb : ℕ) (placed : Placed) : Type 0 where
+-- the first column fixes the answer, which stands in one limb and has this sign
+pub record Told (o : Mode) (p : ℕ) (x y : Operand) (negative : Bool) (limb : ℕ) (placed : Placed) : Type 0 where
   pub fixed : decideAt o p x y 1 ≡ true
   pub left : Left p (add o p x y) (limb ∷ []) placed
-  pub signed : Signed (x .negative) (add o p x y)
+  pub signed : Signed negative (add o p x y)

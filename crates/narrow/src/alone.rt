@@ -26,7 +26,7 @@ fn has_rest(p: u64, u: u64) -> bool
 // number and of a tie it lies.
 fn see_alone(mode: u8, negative: bool, p: u64, first: u64, top: u64, u: u64) -> Seen
     requires { ⌜ Lone p top u ⌝ }
-    ensures { λ r. ⌜ (r .open ≡ false → (x z : Operand) → Beside x z first top u → negative ≡ x .negative → Told (modeOf mode) p x z (r .limb) (r .placed)) ⌝ }
+    ensures { λ r. ⌜ (r .open ≡ false → (x z : Operand) → Beside x z first top u → negative ≡ x .negative → Told (modeOf mode) p x z (r .negative) (r .limb) (r .placed)) ⌝ }
 {
     let fixed = (first <= 64) | has_rest(p, u);
     if !fixed {
@@ -36,6 +36,7 @@ fn see_alone(mode: u8, negative: bool, p: u64, first: u64, top: u64, u: u64) -> 
     let placed = r.placed;
     Seen {
         open: false,
+        negative: negative,
         limb: r.limb,
         placed: placed,
     }
@@ -52,7 +53,7 @@ pub fn look_alone(mode: u8, x: Number, xl: &[u64], p: u64) -> Sight
     let seen = see_alone(mode, negative, p, x.precision, top, u);
     Sight {
         seen: seen,
-        negative: negative,
+        negative: seen.negative,
         first: 1,
         second: 0,
     }

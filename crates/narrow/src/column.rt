@@ -1,7 +1,7 @@
 // The first column of two operands as a run to be rounded, where it fixes the answer.
 ghost use mathlib.Core.Path.{_≡_};
 ghost use mathlib.Core.Bool.{true, false};
-ghost use Prim.Native.Nat.{_+_, _-_, _/_, _^_, _<_};
+ghost use Prim.Native.Nat.{_+_, _-_, _/_, _%_, _^_, _≤_, _<_};
 ghost use Rattle.descent.specs.Course.{Inside};
 ghost use Rattle.narrow.specs.Sighting.{Facing};
 ghost use Rattle.narrow.specs.Column.{isWhole, isHole, hasMore, Settles, Found};
@@ -38,6 +38,18 @@ fn is_hole(pair: Pair) -> bool
     (pair.first <= 64) & (64 <= pair.gap)
 }
 
+// Whether the column of a sum fixes it: the digits below the last one kept lie inside a half, which mostly tells, or the column has all of
+// both operands, or there is a hole.
+fn is_fixed(pair: Pair, limb: u64, drop: u64) -> bool
+    requires { ⌜ (0 < drop) × (drop ≤ 64) × (pair .gap + pair .second < 2 ^ 64) ⌝ }
+    ensures { λ r. ⌜ (r ≡ true → isWhole pair ≡ false → isHole pair ≡ false → (1 ≤ limb % 2 ^ (drop - 1)) × (limb % 2 ^ (drop - 1) + 1 < 2 ^ (drop - 1))) ⌝ }
+{
+    if descent::lies_inside(limb, drop) {
+        return true;
+    }
+    is_whole(pair) | is_hole(pair)
+}
+
 // The first operand's limb and the second's part of the column together.
 fn sum_column(p: u64, pair: Pair, u: u64, low: u64) -> Column
     requires { ⌜ Facing p pair u × (pair .same ≡ true) ⌝ }
@@ -46,7 +58,7 @@ fn sum_column(p: u64, pair: Pair, u: u64, low: u64) -> Column
     let s = limb::add_carry(u, low, false);
     let drop = 64 + (s.carry as u64) - p;
     Column {
-        fixed: is_whole(pair) | is_hole(pair) | descent::lies_inside(s.sum, drop),
+        fixed: is_fixed(pair, s.sum, drop),
         carry: s.carry,
         limb: s.sum,
         guard: 0,

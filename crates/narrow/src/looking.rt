@@ -14,7 +14,7 @@ use choice::either;
 use choice::either_sign;
 use settle::Pair;
 
-// What is seen of two operands, in their own order: the sign of the larger, and the limbs used of each.
+// What is seen of two operands, in their own order: the sign, and the limbs used of each.
 pub struct Sight {
     pub seen: Seen,
     pub negative: bool,
@@ -39,7 +39,7 @@ pub fn look(mode: u8, x: Number, xl: &[u64], y: Number, yl: &[u64], p: u64) -> S
     let a = checks::counted_exponent(x.exponent);
     let b = checks::counted_exponent(y.exponent);
     let swapped = is_second_larger(a, b, u, v);
-    let negative = either_sign(swapped, x.negative, y.negative);
+    let larger = either_sign(swapped, x.negative, y.negative);
     let top = either(swapped, a, b);
     let gap = top - either(swapped, b, a);
     let pair = Pair {
@@ -51,7 +51,7 @@ pub fn look(mode: u8, x: Number, xl: &[u64], y: Number, yl: &[u64], p: u64) -> S
     };
     let seen = see(
         mode,
-        negative,
+        larger,
         p,
         pair,
         either(swapped, u, v),
@@ -60,7 +60,7 @@ pub fn look(mode: u8, x: Number, xl: &[u64], y: Number, yl: &[u64], p: u64) -> S
     let lower = (gap < 64) as u64;
     Sight {
         seen: seen,
-        negative: negative,
+        negative: seen.negative,
         first: either(swapped, 1, lower),
         second: either(swapped, lower, 1),
     }

@@ -89,10 +89,20 @@ pub fn settle(target: &mut [u64], exponent: u64, ternary: i8) -> Placed
     }
 }
 
-// The same for one limb.
+// The same for one limb, the range tested first.
 pub fn settle_limb(limb: u64, exponent: u64, ternary: i8) -> PlacedLimb
     ensures { λ r. ⌜ Settled exponent ternary (limb ∷ []) (r .placed) (r .limb ∷ []) ⌝ }
 {
+    if (LEAST_EXPONENT <= exponent) & (exponent <= MOST_EXPONENT) {
+        return PlacedLimb {
+            placed: Placed {
+                rule: 0,
+                exponent,
+                ternary,
+            },
+            limb,
+        };
+    }
     if MOST_EXPONENT < exponent {
         return PlacedLimb {
             placed: Placed {
@@ -103,22 +113,12 @@ pub fn settle_limb(limb: u64, exponent: u64, ternary: i8) -> PlacedLimb
             limb: 0,
         };
     }
-    if exponent < LEAST_EXPONENT {
-        return PlacedLimb {
-            placed: Placed {
-                rule: 7,
-                exponent: 0,
-                ternary: 0,
-            },
-            limb: 0,
-        };
-    }
     PlacedLimb {
         placed: Placed {
-            rule: 0,
-            exponent,
-            ternary,
+            rule: 7,
+            exponent: 0,
+            ternary: 0,
         },
-        limb,
+        limb: 0,
     }
 }

@@ -20,25 +20,19 @@ add-drop c = record { fits = omega (arith, byte-le (c .before .add-carry .result
 sub-drop : tie.Need-sub-drop
 sub-drop c = search needs
 
-is-whole-requires : tie.Need-is-whole-requires
-is-whole-requires c κs = sums-fit _ _ _ (c .before .before .pre .0)
-
-is-hole-requires : tie.Need-is-hole-requires
-is-hole-requires c κs = search needs
-
-lies-inside-requires : tie.Need-lies-inside-requires
-lies-inside-requires c κs =
-    let f = c .before .before .before .before .pre .0 in
-    let h = byte-le (c .before .before .before .add-carry .result .carry) in
-    (omega (arith, f .most), omega (arith, f .least, two-digits))
+is-fixed-requires : tie.Need-is-fixed-requires
+is-fixed-requires c κs =
+    let f = c .before .before .pre .0 in
+    let h = byte-le (c .before .add-carry .result .carry) in
+    (omega (arith, f .most), omega (arith, f .least, two-digits), sums-fit _ _ _ f)
 
 returns : tie.Need-returns
 returns c =
-    let b = c .before .before .before .before .before .before in
+    let b = c .before .before .before .before in
     let a = b .args in
-    let s = c .before .before .before .before .before .add-carry in
+    let s = c .before .before .before .add-carry in
     let lt : s .result .sum < 2 ^ 64 = search needs in
-    λ e. sum-settles (a .p) (a .pair) (a .u) (b .pre .0) (b .pre .1) (a .low) (s .result .sum) (s .result .carry) (s .ensures) lt _ _ _ (c .before .before .before .is-whole .ensures) (c .before .before .is-hole .ensures) (c .before .lies-inside .ensures) e
+    λ e. sum-settles (a .p) (a .pair) (a .u) (b .pre .0) (b .pre .1) (a .low) (s .result .sum) (s .result .carry) (s .ensures) lt _ (c .before .is-fixed .ensures e)
 
 pub sum-column-spec : {M : Type 1} → statement M
 sum-column-spec =
@@ -48,7 +42,5 @@ sum-column-spec =
     cast-drop
     add-drop
     sub-drop
-    is-whole-requires
-    is-hole-requires
-    lies-inside-requires
+    is-fixed-requires
     returns)

@@ -11,7 +11,7 @@ see-exact-requires : tie.Need-see-exact-requires
 see-exact-requires c κs = (c .before .before .pre, c .before .is-exact .ensures (c .if1 .taken))
 
 returns : tie.Need-returns
-returns c = let r = c .see-exact .ensures in (λ e same. r .0 e, λ e x y h sign. r .1 e (c .before .before .before .args .mode) x y h)
+returns c = search needs
 
 see-column-requires : tie.Need-see-column-requires
 see-column-requires c κs = search needs

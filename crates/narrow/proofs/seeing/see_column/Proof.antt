@@ -15,7 +15,7 @@ nothing-requires : tie.Need-nothing-requires
 nothing-requires c κs = search needs
 
 returns : tie.Need-returns
-returns c = (λ e. absurd (true≢false (sym (c .nothing .ensures) ∙ e)), λ e. absurd (true≢false (sym (c .nothing .ensures) ∙ e)))
+returns c = λ e. absurd (true≢false (sym (c .nothing .ensures) ∙ e))
 
 sub-round-one : tie.Need-sub-round-one
 sub-round-one c = top-high _ (c .before .before .before .before .pre .low)
@@ -35,7 +35,7 @@ returns-2 c =
     let r = c .before .before .before .before .before .column-of in
     let found = r .ensures (not-false (r .result .fixed) (c .before .before .before .if1 .left)) in
     let o = c .before .round-one in
-    (λ e. found .ahead, λ e. told (a .p) (a .pair) (a .u) (a .v) (b .pre) (r .result) found (a .mode) (a .negative) (o .result .limb) (o .result .placed) (o .ensures .0) (o .ensures .1))
+    λ e. told (a .p) (a .pair) (a .u) (a .v) (b .pre) (r .result) found (a .mode) (a .negative) (o .result .limb) (o .result .placed) (o .ensures .0) (o .ensures .1)
 
 pub see-column-spec : {M : Type 1} → statement M
 see-column-spec =
