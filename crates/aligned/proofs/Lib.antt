@@ -3,4 +3,7 @@ pub mod Parting
 pub mod Whole
 pub mod Stands
 pub mod Clean
+pub mod ByValue
+pub mod ExactDifference
 pub mod AsFound
+pub mod FewFound
