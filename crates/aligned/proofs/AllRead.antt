@@ -1,14 +1,14 @@
 -- Operands of one exponent and n limbs: n columns are all that there is, one fewer fixes nothing, and what is read is the sum. Assumes nothing.
 use mathlib.Core.Path.{_≡_, refl, sym, ap, _∙_, subst}
-use mathlib.Core.Bool.{Bool, true, false, _&&_}
+use mathlib.Core.Bool.{Bool, true, false, _&&_, true≢false}
 use mathlib.Core.List.{List}
-use Prim.Native.Nat.{ℕ, suc, _+_, _-_, _*_, _^_, _≤_, _<_}
+use Prim.Native.Nat.{ℕ, suc, _+_, _-_, _*_, _/_, _^_, _≤_, _<_}
 use native.Mathlib.Decide.{decLe}
 use native.Mathlib.Nat.{pow-succ'}
 use native.Mathlib.Omega.{arith}
 use borrow.Author.Tests.{le-leb, lt-leb, ltb-false, le-ltb}
 use lib.Dec.{ltb, leb}
-use lib.ListN.{length}
+use lib.ListN.{length, replicate, length-replicate}
 use lib.Ieee.{size}
 use lib.Ieee.Digits.{size-le}
 use Rattle.limb.specs.Carry.{bit}
@@ -20,25 +20,34 @@ use Rattle.rounding.specs.Mode.{Mode, way}
 use Rattle.rounding.specs.Answer.{rounded}
 use Rattle.rounding.specs.Sum.{add}
 use Rattle.depth.specs.Bound.{deepest}
+use Rattle.depth.specs.Columns.{topExponent}
 use Rattle.decide.specs.Decide.{decideAt}
+use Rattle.decide.proofs.Decision.{depth-decided}
+use Rattle.place.specs.declared.Placed.{Placed}
+use Rattle.reports.specs.Counts.{usedOf}
+use Rattle.reports.specs.Signed.{Signed}
+use Rattle.reports.proofs.Counts.{used-all, used-is}
 use Rattle.columns.specs.Column.{readTo}
 use Rattle.columns.proofs.Reading.{read-lt}
 use Rattle.settle.specs.Rows.{rowOf}
 use Rattle.settle.specs.declared.rows.Pair.{Pair}
 use Rattle.settle.specs.declared.rows.Row.the-variants.{Exact}
 use Rattle.bridge.specs.Verdict.{pairOf, Ordered, Leads, readSum, settledBy, moreOf, verdict}
-use Rattle.bridge.proofs.Told.{pair-first, pair-second, pair-gap, pair-top}
+use Rattle.bridge.proofs.Told.{pair-first, pair-second, pair-gap, pair-top, top-is}
 use Rattle.bridge.proofs.Decision.{decision}
 use Rattle.bridge.proofs.Covered.{columns-above}
 use Rattle.bridge.proofs.Theorems.{leads-later, row-sum}
+use Rattle.descent.specs.Ready.{Room}
 use Rattle.descent.specs.Course.{Course}
 use Rattle.descent.proofs.GoingOn.{sum-below, difference-is}
 use Rattle.descent.proofs.GoingDown.{room-some, open-before}
 use Rattle.descent.proofs.JudgingRange.{digits-some}
 use Rattle.ending.proofs.RegularEnd.{deep-enough}
+use Rattle.ending.specs.Finishing.{Left}
+use Rattle.wide.specs.Attempted.{Attempted}
 use Rattle.wide.proofs.Unread.{row-read}
 use Rattle.wide.proofs.Level.{short-open}
-use Rattle.aligned.specs.Aligned.{Aligned, Standing}
+use Rattle.aligned.specs.Aligned.{Aligned, Covered}
 
 module _ (x y : Operand) (n : ℕ) (a : Aligned x y n) where
   pub no-gap : pairOf x y .gap ≡ 0
@@ -60,13 +69,17 @@ module _ (x y : Operand) (n : ℕ) (a : Aligned x y n) where
   second-some = omega (arith, pair-second x y (a .second-regular), precision-two y (a .second))
 
   -- all is read of both
-  row : rowOf (pairOf x y) n ≡ Exact
+  pub row : rowOf (pairOf x y) n ≡ Exact
   row = row-read (pairOf x y) n second-some (rw (le-leb (pairOf x y .first) (64 * n) (omega (arith, pair-first x y, first-held)), le-leb (pairOf x y .gap + pairOf x y .second) (64 * n) (omega (arith, no-gap, pair-second x y (a .second-regular), second-held))) refl)
 
-module _ (o : Mode) (p : ℕ) (x y : Operand) (target : List ℕ) (carry : Bool) (z top : ℕ) (s : Standing p x y target carry z top) where
-  abbrev n : ℕ
-  n = length target
+-- n columns use n limbs of an operand that begins at the top
+pub used : (w : Operand) (n : ℕ) → 0 < n → length (w .limbs) ≡ n → n ≡ usedOf n 0 (length (w .limbs))
+used w n h e = rw e (used-all n 0 n (omega arith) (whole n))
+  where
+    whole : (m : ℕ) → m ≤ (64 * m - 0 + 63) / 64
+    whole m = omega arith
 
+module _ (o : Mode) (p : ℕ) (x y : Operand) (n z top : ℕ) (s : Covered p x y n z top) where
   abbrev a : Aligned x y n
   a = s .aligned
 
@@ -151,6 +164,23 @@ module _ (o : Mode) (p : ℕ) (x y : Operand) (target : List ℕ) (carry : Bool)
 
   pub first : 1 < n → decideAt o p x y (n - 1) ≡ false
   first more = elim (decLe (n - 1) z) [
-    | yes h ↦ let e : z ≡ n - 1 = omega arith in subst (λ (m : ℕ). decideAt o p x y m ≡ false) e (open-before o p x y z course target (s .room) (omega arith))
+    | yes h ↦ let e : z ≡ n - 1 = omega arith in subst (λ (m : ℕ). decideAt o p x y m ≡ false) e (open-before o p x y z course (replicate n 0) (subst (Room p) (sym (length-replicate n 0)) (s .room)) (omega arith))
     | no h ↦ parted-open more (omega arith)
   ]
+
+  -- ---- what is told of it
+
+  pub covered-told : {exit : List ℕ} {negative : Bool} {placed : Placed} → Left p (add o p x y) exit placed → Signed negative (add o p x y) → Attempted o p x y exit negative placed n n n
+  covered-told left sign =
+      let top-told : topExponent x y ≡ x .exponent = top-is o p P x y 1 d (omega arith) in
+      record {
+        decides = record { zeros = λ h. absurd (true≢false (sym h ∙ rw (a .first-regular) refl)); deciding = λ h. depth-decided o p P x y (a .first) (a .second) n some fixed first };
+        bounded = near;
+        left = left;
+        signed = sign;
+        first-used = used x n some (a .first-limbs) ∙ used-is x (topExponent x y) n 0 (a .first) (a .first-regular) (rw top-told (apart (x .exponent) (x .exponent) refl));
+        second-used = used y n some (a .second-limbs) ∙ used-is y (topExponent x y) n 0 (a .second) (a .second-regular) (rw top-told (apart (x .exponent) (y .exponent) (a .even)));
+      }
+    where
+      apart : (m i : ℕ) → i ≡ m → 0 ≡ m - i
+      apart m i h = omega arith

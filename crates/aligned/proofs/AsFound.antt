@@ -9,9 +9,9 @@ use lib.Dec.{ltb}
 use lib.ListN.{length, getD}
 use Rattle.limb.specs.Value.{valueOf, Below}
 use Rattle.fused.specs.Fused.{SumOf}
-use Rattle.numbers.specs.Limits.{counted, leastExponent, mostExponent, bias, limbsFor, mostPrecision}
+use Rattle.numbers.specs.Limits.{counted, leastExponent, mostExponent, bias}
 use Rattle.numbers.specs.Operand.{Operand, WellFormed}
-use Rattle.rounding.specs.Mode.{modeOf}
+use Rattle.rounding.specs.Mode.{Mode}
 use Rattle.rounding.proofs.Order.{le-or-lt}
 use Rattle.checks.specs.declared.Number.{Number}
 use Rattle.checks.specs.Number.{operandOf}
@@ -24,7 +24,7 @@ use Rattle.aligned.specs.Aligned.{Aligned, Cancelling, Alike, Reducible,
 use Rattle.aligned.proofs.Parting.{Parted}
 use Rattle.aligned.proofs.Cancels.{all-alike}
 use Rattle.aligned.proofs.Clean.{none-below}
-use Rattle.aligned.proofs.Stands.{standing-sum, standing-difference, parted, sign-told, reducible}
+use Rattle.aligned.proofs.Stands.{limbs-modest, standing-sum, standing-difference, parted, sign-told, reducible}
 
 -- ---- the same runs under other names
 
@@ -53,9 +53,16 @@ pub top-modest : (x y : Operand) (n top : ℕ) → Aligned x y n → top ≡ x .
 unfolding mostExponent bias
 top-modest x y n top a e = omega (arith, a .first .regular (a .first-regular) .most)
 
-pub limbs-modest : (p n : ℕ) → Room p n → n ≤ 64
-unfolding limbsFor mostPrecision
-limbs-modest p n room = omega (arith, room .count, room .most)
+-- limbs and digits of two of them in either order
+pub either-limbs : (x : Number) (xl : List ℕ) (y : Number) (yl : List ℕ) (s : Bool) → cond s (operandOf y yl) (operandOf x xl) .limbs ≡ cond s yl xl
+unfolding operandOf
+either-limbs x xl y yl true = refl
+either-limbs x xl y yl false = refl
+
+pub either-few : (p : ℕ) (x : Number) (xl : List ℕ) (y : Number) (yl : List ℕ) (s : Bool) → x .precision ≤ p → y .precision ≤ p → cond s (operandOf y yl) (operandOf x xl) .precision ≤ p
+unfolding operandOf
+either-few p x xl y yl true h k = k
+either-few p x xl y yl false h k = h
 
 module _ (p : ℕ) (x : Number) (xl : List ℕ) (y : Number) (yl : List ℕ) (before : List ℕ) (top : ℕ) (room : Room p (length before)) (a : Aligned (operandOf x xl) (operandOf y yl) (length before)) where
   abbrev X : Operand
@@ -82,6 +89,25 @@ module _ (p : ℕ) (x : Number) (xl : List ℕ) (y : Number) (yl : List ℕ) (be
   unfolding operandOf
   cancels-told z same e unlike = record { aligned = a; unlike = unlike; level = all-alike xl yl (length before) z first-many same e }
 
+  -- the larger of the two has the sign of the difference
+  pub sign-kept : Bool·beq (x .negative) (y .negative) ≡ false → (s : Bool) → not (Bool·beq (x .negative) s) ≡ cond s Y X .negative
+  unfolding operandOf
+  sign-kept = sign-told X Y
+
+  -- what is told of them in order is told of them as they came
+  pub difference-told : (s : Bool) (o : Mode) {exit : List ℕ} {negative : Bool} {placed : Placed} (k i j : ℕ) → j ≡ i → Attempted o p (cond s Y X) (cond s X Y) exit negative placed k i j → Attempted o p X Y exit negative placed k i j
+  difference-told s o {exit} {negative} {placed} k i j e t =
+      attempted-told o p (length before) room X Y (a .first-regular) (a .second-regular) s exit negative placed k i j
+      (subst (λ (m : ℕ). Attempted o p (cond s Y X) (cond s X Y) exit negative placed k m (cond s i j)) (first s) (subst (Attempted o p (cond s Y X) (cond s X Y) exit negative placed k i) (second s) t))
+    where
+      first : (b : Bool) → i ≡ cond b j i
+      first true = sym e
+      first false = refl
+
+      second : (b : Bool) → j ≡ cond b i j
+      second true = e
+      second false = refl
+
   module _ (z : ℕ) (same : Alike xl yl z) (some : z ≡ length before → ⊥) where
     pub within-runs : z < length xl
     within-runs = go (same .within) (λ e. some (e ∙ first-many))
@@ -94,62 +120,20 @@ module _ (p : ℕ) (x : Number) (xl : List ℕ) (y : Number) (yl : List ℕ) (be
       unfolding operandOf
       parts-told = parted X Y (length before) z a unlike (rw (← first-many) within-runs) same s (rw first-many at larger)
 
-      first-run : cond s Y X .limbs ≡ cond s yl xl
-      unfolding operandOf
-      first-run = go s
-        where
-          go : (b : Bool) → cond b Y X .limbs ≡ cond b yl xl
-          go true = refl
-          go false = refl
-
-      second-run : cond s X Y .limbs ≡ cond s xl yl
-      unfolding operandOf
-      second-run = go s
-        where
-          go : (b : Bool) → cond b X Y .limbs ≡ cond b xl yl
-          go true = refl
-          go false = refl
-
       pub reducible-told : Reducible (cond s yl xl) (cond s xl yl) (length before) z
-      reducible-told = rw (← first-run, ← second-run) (reducible (cond s Y X) (cond s X Y) (length before) z (limbs-modest p (length before) room) parts-told)
-
-      pub sign-kept : not (Bool·beq (x .negative) s) ≡ cond s Y X .negative
-      unfolding operandOf
-      sign-kept = sign-told X Y (length before) z a unlike (rw (← first-many) within-runs) same s
+      reducible-told = rw (← either-limbs x xl y yl s, ← either-limbs y yl x xl s) (reducible (cond s Y X) (cond s X Y) (length before) z (limbs-modest p (length before) room) parts-told)
 
       pub difference-stands : {t : List ℕ} → top ≡ X .exponent → ltb (top + 1) (leastExponent + 64 * length before) ≡ false → Subtracted (cond s yl xl) (cond s xl yl) before t z → (getD t (length before - 1) 0 ≡ 0 → ⊥) → Standing p (cond s Y X) (cond s X Y) t false z top
       difference-stands {t} e low d led =
           standing-difference p (cond s Y X) (cond s X Y) t z top (subst (Room p) (sym (d .size)) room) (subst (λ (n : ℕ). Parted (cond s Y X) (cond s X Y) n z) (sym (d .size)) parts-told) (e ∙ even s) (rw (d .size) low)
-          (rw (first-run, second-run, d .size) (d .value)) (rw (d .size) (some-of (getD t (length before - 1) 0) led))
+          (rw (either-limbs x xl y yl s, either-limbs y yl x xl s, d .size) (d .value)) (rw (d .size) (some-of (getD t (length before - 1) 0) led))
         where
           even : (b : Bool) → X .exponent ≡ cond b Y X .exponent
           even true = sym (a .even)
           even false = refl
 
       pub difference-clean : {t : List ℕ} → Standing p (cond s Y X) (cond s X Y) t false z top → x .precision ≤ p → y .precision ≤ p → valueOf t % 2 ^ (64 * length t - p) ≡ 0
-      unfolding operandOf
-      difference-clean {t} d h k = none-below p (cond s Y X) (cond s X Y) t z top d (parts-told .unlike) (first s) (second s)
-        where
-          first : (b : Bool) → cond b Y X .precision ≤ p
-          first true = k
-          first false = h
-
-          second : (b : Bool) → cond b X Y .precision ≤ p
-          second true = h
-          second false = k
-
-      pub difference-told : (mode : ℕ) {exit : List ℕ} {negative : Bool} {placed : Placed} (k i j : ℕ) → j ≡ i → Attempted (modeOf mode) p (cond s Y X) (cond s X Y) exit negative placed k i j → Attempted (modeOf mode) p X Y exit negative placed k i j
-      difference-told mode {exit} {negative} {placed} k i j e t =
-          attempted-told (modeOf mode) p (length before) room X Y (a .first-regular) (a .second-regular) s exit negative placed k i j
-          (subst (λ (m : ℕ). Attempted (modeOf mode) p (cond s Y X) (cond s X Y) exit negative placed k m (cond s i j)) (first s) (subst (Attempted (modeOf mode) p (cond s Y X) (cond s X Y) exit negative placed k i) (second s) t))
-        where
-          first : (b : Bool) → i ≡ cond b j i
-          first true = sym e
-          first false = refl
-
-          second : (b : Bool) → j ≡ cond b i j
-          second true = e
-          second false = refl
+      difference-clean {t} d h k = none-below p (cond s Y X) (cond s X Y) t z top d (parts-told .unlike) (either-few p x xl y yl s h k) (either-few p y yl x xl s k h)
 
 pub unlike-is : (b : Bool) → not b ≡ true → b ≡ false
 unlike-is true e = sym e

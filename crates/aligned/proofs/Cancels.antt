@@ -23,7 +23,7 @@ use Rattle.reports.specs.Signed.{Signed}
 use Rattle.wide.specs.Attempted.{Attempted}
 use Rattle.aligned.specs.Aligned.{Aligned, Alike, Cancelling}
 use Rattle.aligned.proofs.Parting.{read-level}
-use Rattle.aligned.proofs.Whole.{used}
+use Rattle.aligned.proofs.AllRead.{used}
 
 -- ---- runs of which all limbs are alike
 

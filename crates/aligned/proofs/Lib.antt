@@ -4,4 +4,7 @@ pub mod Whole
 pub mod Cancels
 pub mod Stands
 pub mod Clean
+pub mod ByValue
+pub mod ExactDifference
 pub mod AsFound
+pub mod FewFound

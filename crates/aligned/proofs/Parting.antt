@@ -1,7 +1,8 @@
 -- Where two runs of one length part: the limbs above are alike, so that the limbs below have their difference. Assumes nothing.
 use mathlib.Core.Path.{_≡_, refl, sym, ap, _∙_}
+use mathlib.Core.Logic.{inl, inr}
 use mathlib.Core.Bool.{true, false, Bool·beq, true≢false}
-use mathlib.Core.List.{List, []}
+use mathlib.Core.List.{List, [], _∷_}
 use Prim.Native.Nat.{ℕ, suc, _+_, _-_, _*_, _/_, _^_, _≤_, _<_}
 use native.Mathlib.Nat.{mul-le-mul-left}
 use native.Mathlib.Omega.{arith}
@@ -9,6 +10,7 @@ use lib.ListN.{length, take, drop, getD, drop-of-length-le}
 use Rattle.limb.specs.Value.{valueOf, valueIn, Below}
 use Rattle.limb.proofs.Value.{value-split, value-take, value-drop, value-take-lt, value-shr, base-pow}
 use Rattle.numbers.specs.Operand.{Operand}
+use Rattle.rounding.proofs.Order.{le-or-lt}
 use Rattle.columns.specs.Column.{readTo}
 use Rattle.leap.proofs.Leaping.{read-down}
 use Rattle.bridge.specs.Verdict.{pairOf, Ordered, readSum}
@@ -152,3 +154,37 @@ module _ (x y : Operand) (n z : ℕ) (t : Parted x y n z) (few : n ≤ 64) where
     where
       go : (u v q r P : ℕ) {X Y : ℕ} → X ≡ u + P * q → Y ≡ v + P * r → r ≡ q → X - Y ≡ u - v
       go u v q r P e f g = let h : P * r ≡ P * q = ap (λ (i : ℕ). P * i) g in omega arith
+
+-- ---- runs of which one is worth more
+
+-- of two runs of one length the place where they part: alike above, and the first larger there
+pub record Parts (B : ℕ) (a b : List ℕ) : Type 0 where
+  pub place : ℕ
+  pub within : place < length a
+  pub level : valueIn B (drop (length a - place) b) ≡ valueIn B (drop (length a - place) a)
+  pub larger : getD b (length a - 1 - place) 0 < getD a (length a - 1 - place) 0
+
+module _ (B : ℕ) where
+  -- in their lowest limb
+  parts-last : (h k : ℕ) (t u : List ℕ) → h < B → valueIn B t ≤ valueIn B u → k + B * valueIn B u < h + B * valueIn B t → Parts B (h ∷ t) (k ∷ u)
+  parts-last h k t u lim le less =
+      let same : valueIn B u ≡ valueIn B t = level (valueIn B u) (valueIn B t) le less in
+      let first : length (h ∷ t) - length t ≡ 1 = omega arith in
+      let last : length (h ∷ t) - 1 - length t ≡ 0 = omega arith in
+      record { place = length t; within = omega arith; level = rw first same; larger = rw last (omega (arith, ap (λ (m : ℕ). B * m) same)) }
+    where
+      level : (m n : ℕ) → n ≤ m → k + B * m < h + B * n → m ≡ n
+      level m n i j = elim (le-or-lt m n) [ inl l ↦ omega arith | inr l ↦ absurd (omega (arith, mul-le-mul-left B l)) ]
+
+  -- above it
+  parts-above : (h k : ℕ) (t u : List ℕ) → Parts B t u → Parts B (h ∷ t) (k ∷ u)
+  parts-above h k t u p =
+      let first : length (h ∷ t) - p .place ≡ suc (length t - p .place) = omega (arith, p .within) in
+      let here : length (h ∷ t) - 1 - p .place ≡ suc (length t - 1 - p .place) = omega (arith, p .within) in
+      record { place = p .place; within = omega (arith, p .within); level = rw first (p .level); larger = rw here (p .larger) }
+
+  pub parts : (a b : List ℕ) → length b ≡ length a → Below B a → valueIn B b < valueIn B a → Parts B a b
+  unfolding valueIn
+  parts [] b e lim less = absurd (omega arith)
+  parts (h ∷ t) [] e lim less = absurd (omega arith)
+  parts (h ∷ t) (k ∷ u) e lim less = elim (le-or-lt (valueIn B t) (valueIn B u)) [ inl l ↦ parts-last h k t u (lim 0) l less | inr l ↦ parts-above h k t u (parts t u (omega arith) (λ i. lim (suc i)) l) ]

@@ -24,7 +24,7 @@ use Rattle.descent.specs.Ready.{Room}
 use Rattle.descent.proofs.GoingDown.{room-some}
 use Rattle.ending.proofs.Finishing.{cleared}
 use Rattle.ending.proofs.Handed.{beq-turned}
-use Rattle.aligned.specs.Aligned.{Aligned, Alike, Reducible, Subtracted, Standing}
+use Rattle.aligned.specs.Aligned.{Aligned, Alike, Reducible, Subtracted, Covered, Standing}
 use Rattle.aligned.proofs.Parting.{Parted, same-told, sum-all, course-sum, apart, lower-less, course-parted, difference-below}
 
 -- ---- a sum
@@ -61,13 +61,7 @@ module _ (p : ℕ) (x y : Operand) (t : List ℕ) (carry : Bool) (top : ℕ) (ro
   standing-sum =
       let same = same-told x y (length t) a like in
       record {
-        room = room;
-        aligned = a;
-        course = course-sum x y (length t) a same;
-        within = room-some p (length t) room;
-        top-is = top-is;
-        high = λ e. high;
-        low = λ e. absurd (true≢false (sym same ∙ e));
+        covered = record { room = room; aligned = a; course = course-sum x y (length t) a same; within = room-some p (length t) room; top-is = top-is; high = λ e. high; low = λ e. absurd (true≢false (sym same ∙ e)) };
         value = rw (sum-all x y (length t) a same) (go (2 ^ (64 * length t)) (bit carry) value);
         led = λ e. top-some t below (room-some p (length t) room) (all (rw e at value));
       }
@@ -128,22 +122,25 @@ module _ (t first second ys part : List ℕ) (z i m n : ℕ) (out : Bool) (q : R
     pub subtracted : length after ≡ length t → Subtracted first second t after z
     subtracted e = record { size = e; value = moved ∙ rw (base-pow z, part-worth) (mul-comm (2 ^ (64 * z)) (F - S)) }
 
+pub limbs-modest : (p n : ℕ) → Room p n → n ≤ 64
+unfolding limbsFor mostPrecision
+limbs-modest p n room = omega (arith, room .count, room .most)
+
+-- operands that part are read in all columns
+pub covered-parted : (p : ℕ) (x y : Operand) (n z top : ℕ) → Room p n → Parted x y n z → top ≡ x .exponent → ltb (top + 1) (leastExponent + 64 * n) ≡ false → Covered p x y n z top
+covered-parted p x y n z top room d e low =
+    let few = limbs-modest p n room in
+    record { room = room; aligned = d .aligned; course = course-parted x y n z d few; within = d .within; top-is = e; high = λ f. absurd (true≢false (sym f ∙ apart x y n z d few)); low = λ f. low }
+
 module _ (p : ℕ) (x y : Operand) (t : List ℕ) (z top : ℕ) (room : Room p (length t)) (d : Parted x y (length t) z) (top-is : top ≡ x .exponent) (low : ltb (top + 1) (leastExponent + 64 * length t) ≡ false)
     (value : valueOf t ≡ (valueOf (take (length t - z) (x .limbs)) - valueOf (take (length t - z) (y .limbs))) * 2 ^ (64 * z)) (led : 0 < getD t (length t - 1) 0) where
   few : length t ≤ 64
-  unfolding limbsFor mostPrecision
-  few = omega (arith, room .count, room .most)
+  few = limbs-modest p (length t) room
 
   pub standing-difference : Standing p x y t false z top
   unfolding bit
   standing-difference = record {
-    room = room;
-    aligned = d .aligned;
-    course = course-parted x y (length t) z d few;
-    within = d .within;
-    top-is = top-is;
-    high = λ e. absurd (true≢false (sym e ∙ apart x y (length t) z d few));
-    low = λ e. low;
+    covered = covered-parted p x y (length t) z top room d top-is low;
     value = rw (difference-below x y (length t) z d few) (flat (2 ^ (64 * length t)) (valueOf t) ∙ value);
     led = λ e. led;
   }
@@ -153,7 +150,7 @@ module _ (p : ℕ) (x y : Operand) (t : List ℕ) (z top : ℕ) (room : Room p (
 
 -- ---- which of them comes first
 
-aligned-turned : (x y : Operand) (n : ℕ) → Aligned x y n → Aligned y x n
+pub aligned-turned : (x y : Operand) (n : ℕ) → Aligned x y n → Aligned y x n
 aligned-turned x y n a = record { first = a .second; second = a .first; first-regular = a .second-regular; second-regular = a .first-regular; even = sym (a .even); first-limbs = a .second-limbs; second-limbs = a .first-limbs }
 
 module _ (x y : Operand) (n z : ℕ) (a : Aligned x y n) (unlike : Bool·beq (x .negative) (y .negative) ≡ false) (within : z < n) (same : Alike (x .limbs) (y .limbs) z) where
@@ -170,16 +167,16 @@ module _ (x y : Operand) (n z : ℕ) (a : Aligned x y n) (unlike : Bool·beq (x 
       strict : (u v : ℕ) → v ≤ u → (u ≡ v → ⊥) → v < u
       strict u v h k = elim (le-or-lt u v) [ inl l ↦ absurd (k (omega arith)) | inr l ↦ l ]
 
-  pub sign-told : (s : Bool) → not (Bool·beq (x .negative) s) ≡ cond s y x .negative
-  sign-told s = go (x .negative) (y .negative) s refl refl unlike
-    where
-      go : (b c s : Bool) → x .negative ≡ b → y .negative ≡ c → Bool·beq b c ≡ false → not (Bool·beq b s) ≡ cond s y x .negative
-      go true true s e f u = absurd (true≢false u)
-      go true false true e f u = sym f
-      go true false false e f u = sym e
-      go false true true e f u = sym f
-      go false true false e f u = sym e
-      go false false s e f u = absurd (true≢false u)
+pub sign-told : (x y : Operand) → Bool·beq (x .negative) (y .negative) ≡ false → (s : Bool) → not (Bool·beq (x .negative) s) ≡ cond s y x .negative
+sign-told x y unlike s = go (x .negative) (y .negative) s refl refl unlike
+  where
+    go : (b c s : Bool) → x .negative ≡ b → y .negative ≡ c → Bool·beq b c ≡ false → not (Bool·beq b s) ≡ cond s y x .negative
+    go true true s e f u = absurd (true≢false u)
+    go true false true e f u = sym f
+    go true false false e f u = sym e
+    go false true true e f u = sym f
+    go false true false e f u = sym e
+    go false false s e f u = absurd (true≢false u)
 
 pub reducible : (x y : Operand) (n z : ℕ) → n ≤ 64 → Parted x y n z → Reducible (x .limbs) (y .limbs) n z
 reducible x y n z few d = record { within = omega (arith, d .within); first-limbs = d .aligned .first-limbs; second-limbs = d .aligned .second-limbs; less = omega (arith, lower-less x y n z d few) }

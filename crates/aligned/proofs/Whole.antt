@@ -2,7 +2,7 @@
 use mathlib.Core.Path.{_≡_, refl, sym, ap, _∙_}
 use mathlib.Core.Bool.{Bool, true, false, _||_, true≢false}
 use mathlib.Core.List.{List}
-use Prim.Native.Nat.{ℕ, _+_, _-_, _*_, _/_, _^_, _≤_, _<_}
+use Prim.Native.Nat.{ℕ, _+_, _-_, _*_, _^_, _≤_, _<_}
 use native.Mathlib.Nat.{mul-assoc}
 use native.Mathlib.Omega.{arith}
 use borrow.Author.Tests.{lt-ltb, le-leb, eq-eqb}
@@ -15,32 +15,20 @@ use Rattle.numbers.specs.Operand.{Operand}
 use Rattle.rounding.specs.Mode.{Mode, modeOf, way}
 use Rattle.rounding.specs.Answer.{rounded}
 use Rattle.rounding.specs.Sum.{add}
-use Rattle.depth.specs.Columns.{topExponent}
-use Rattle.decide.proofs.Decision.{depth-decided}
 use Rattle.place.specs.declared.Placed.{Placed}
 use Rattle.place.specs.Placed.{runNumber, runAnswer, runRule, placedOf, limbsAfter}
 use Rattle.place.specs.Rounded.{roundedPlaced, roundedLimbs}
 use Rattle.place.proofs.Answer.{placed-passed, limbs-passed}
 use Rattle.place.proofs.Rules.{rule-none}
 use Rattle.bridge.specs.Verdict.{Ordered, readSum}
-use Rattle.bridge.proofs.Told.{top-is}
 use Rattle.bridge.proofs.Answers.{sum-pos}
 use Rattle.bridge.proofs.Covered.{columns-above}
 use Rattle.bridge.proofs.Refine.{scaled-up}
 use Rattle.descent.proofs.JudgingRange.{digits-some}
 use Rattle.ending.proofs.RegularEnd.{deep-enough, rounded-signed}
-use Rattle.reports.specs.Counts.{usedOf}
-use Rattle.reports.proofs.Counts.{used-all, used-is}
 use Rattle.wide.specs.Attempted.{Attempted}
 use Rattle.aligned.specs.Aligned.{Aligned, Standing}
-use Rattle.aligned.proofs.AllRead.{some, limbs-few, near, leads-all, fixed, answer, first}
-
--- n columns use n limbs of an operand that begins at the top
-pub used : (w : Operand) (n : ℕ) → 0 < n → length (w .limbs) ≡ n → n ≡ usedOf n 0 (length (w .limbs))
-used w n h e = rw e (used-all n 0 n (omega arith) (whole n))
-  where
-    whole : (m : ℕ) → m ≤ (64 * m - 0 + 63) / 64
-    whole m = omega arith
+use Rattle.aligned.proofs.AllRead.{some, limbs-few, leads-all, answer, covered-told}
 
 module _ (mode p : ℕ) (x y : Operand) (t : List ℕ) (carry : Bool) (z top : ℕ) (s : Standing p x y t carry z top) where
   abbrev o : Mode
@@ -50,10 +38,10 @@ module _ (mode p : ℕ) (x y : Operand) (t : List ℕ) (carry : Bool) (z top : �
   n = length t
 
   abbrev a : Aligned x y n
-  a = s .aligned
+  a = s .covered .aligned
 
   abbrev d : Ordered x y
-  d = s .course .ordered
+  d = s .covered .course .ordered
 
   abbrev unit : ℕ
   unit = top - 64 * (n + z + 1)
@@ -62,23 +50,23 @@ module _ (mode p : ℕ) (x y : Operand) (t : List ℕ) (carry : Bool) (z top : �
   D = readSum x y n
 
   P : 0 < p
-  P = digits-some p n (s .room)
+  P = digits-some p n (s .covered .room)
 
   above : 64 * (n + z + 1) + 1 ≤ x .exponent
-  above = columns-above x (a .first) (a .first-regular) (n + z + 1) (omega (arith, limbs-few o p x y t carry z top s, s .within, deep-enough))
+  above = columns-above x (a .first) (a .first-regular) (n + z + 1) (omega (arith, limbs-few o p x y n z top (s .covered), s .covered .within, deep-enough))
 
   unit-room : 64 * (n + z + 1) ≤ top
-  unit-room = omega (arith, above, s .top-is)
+  unit-room = omega (arith, above, s .covered .top-is)
 
   fit : runRule p carry t unit ≡ 0
   fit =
-      sym (rule-none p carry t unit (rw (le-leb leastPrecision p (s .room .least), le-leb p mostPrecision (s .room .most)) refl) (eq-eqb n (limbsFor p) (s .room .count)) (rw (lt-ltb 0 unit positive, le-leb unit (2 * mostExponent) small) refl) (leading carry refl))
+      sym (rule-none p carry t unit (rw (le-leb leastPrecision p (s .covered .room .least), le-leb p mostPrecision (s .covered .room .most)) refl) (eq-eqb n (limbsFor p) (s .covered .room .count)) (rw (lt-ltb 0 unit positive, le-leb unit (2 * mostExponent) small) refl) (leading carry refl))
     where
       positive : 0 < unit
-      positive = omega (arith, above, s .top-is)
+      positive = omega (arith, above, s .covered .top-is)
 
       small : unit ≤ 2 * mostExponent
-      small = omega (arith, a .first .regular (a .first-regular) .most, s .top-is)
+      small = omega (arith, a .first .regular (a .first-regular) .most, s .covered .top-is)
 
       leading : (c : Bool) → carry ≡ c → (c || ltb 0 (getD t (n - 1) 0)) ≡ true
       leading true e = refl
@@ -102,9 +90,9 @@ module _ (mode p : ℕ) (x y : Operand) (t : List ℕ) (carry : Bool) (z top : �
 
   sum-is : add o p x y ≡ rounded (way o (x .negative)) p (unit - 1) (x .negative) (runNumber carry t 0 false)
   sum-is =
-      answer o p x y t carry z top s
-      ∙ sym (scaled-up (way o (x .negative)) p P (x .negative) (x .exponent - 64 * n) D (z + 1) false (place-room (x .exponent) n above) (sum-pos o p P x y n d (some o p x y t carry z top s) (leads-all o p x y t carry z top s)) (λ e. absurd (true≢false (sym e))))
-      ∙ ap (λ (m : ℕ). rounded (way o (x .negative)) p (m - 1) (x .negative) (2 * (D * 2 ^ (64 * (z + 1))) + bit false)) (place (x .exponent) n ∙ ap (λ (m : ℕ). m - 64 * (n + z + 1)) (sym (s .top-is)))
+      answer o p x y n z top (s .covered)
+      ∙ sym (scaled-up (way o (x .negative)) p P (x .negative) (x .exponent - 64 * n) D (z + 1) false (place-room (x .exponent) n above) (sum-pos o p P x y n d (some o p x y n z top (s .covered)) (leads-all o p x y n z top (s .covered))) (λ e. absurd (true≢false (sym e))))
+      ∙ ap (λ (m : ℕ). rounded (way o (x .negative)) p (m - 1) (x .negative) (2 * (D * 2 ^ (64 * (z + 1))) + bit false)) (place (x .exponent) n ∙ ap (λ (m : ℕ). m - 64 * (n + z + 1)) (sym (s .covered .top-is)))
       ∙ ap (rounded (way o (x .negative)) p (unit - 1) (x .negative)) (sym run-is)
     where
       place-room : (e m : ℕ) → 64 * (m + z + 1) + 1 ≤ e → 64 * (z + 1) + 1 ≤ e - 64 * m
@@ -120,15 +108,6 @@ module _ (mode p : ℕ) (x y : Operand) (t : List ℕ) (carry : Bool) (z top : �
 
     pub told : {exit : List ℕ} {placed : Placed} → placed ≡ roundedPlaced mode p negative unit carry t 0 false → exit ≡ roundedLimbs mode p negative unit carry t 0 false → Attempted o p x y exit negative placed n n n
     told {exit} {placed} e f =
-        let top-told : topExponent x y ≡ x .exponent = top-is o p P x y 1 d (omega arith) in
-        record {
-          decides = record { zeros = λ h. absurd (true≢false (sym h ∙ rw (a .first-regular) refl)); deciding = λ h. depth-decided o p P x y (a .first) (a .second) n (some o p x y t carry z top s) (fixed o p x y t carry z top s) (first o p x y t carry z top s) };
-          bounded = near o p x y t carry z top s;
-          left = record { told = e ∙ placed-passed mode p negative unit carry t 0 false fit ∙ ap placedOf rounds; limbs = f ∙ limbs-passed mode p negative unit carry t 0 false fit ∙ ap (limbsAfter p) rounds };
-          signed = rw (sign, sum-is) (rounded-signed _ _ _ _ _);
-          first-used = used x n (omega (arith, s .within)) (a .first-limbs) ∙ used-is x (topExponent x y) n 0 (a .first) (a .first-regular) (rw top-told (apart (x .exponent) (x .exponent) refl));
-          second-used = used y n (omega (arith, s .within)) (a .second-limbs) ∙ used-is y (topExponent x y) n 0 (a .second) (a .second-regular) (rw top-told (apart (x .exponent) (y .exponent) (a .even)));
-        }
-      where
-        apart : (m i : ℕ) → i ≡ m → 0 ≡ m - i
-        apart m i h = omega arith
+        covered-told o p x y n z top (s .covered)
+        (record { told = e ∙ placed-passed mode p negative unit carry t 0 false fit ∙ ap placedOf rounds; limbs = f ∙ limbs-passed mode p negative unit carry t 0 false fit ∙ ap (limbsAfter p) rounds })
+        (rw (sign, sum-is) (rounded-signed _ _ _ _ _))

@@ -47,14 +47,18 @@ pub record Subtracted (first second before after : List ℕ) (z : ℕ) : Type 0 
   pub size : length after ≡ length before
   pub value : valueOf after ≡ (valueOf (take (length before - z) first) - valueOf (take (length before - z) second)) * 2 ^ (64 * z)
 
--- all that there is of the sum of two such operands stands in the target, moved up by z columns, with a carry on top, and no refusal is near
-pub record Standing (p : ℕ) (x y : Operand) (target : List ℕ) (carry : Bool) (z top : ℕ) : Type 0 where
-  pub room : Room p (length target)
-  pub aligned : Aligned x y (length target)
+-- two such operands of a target of p digits, of which n columns read all: alike in the first z, and no refusal is near
+pub record Covered (p : ℕ) (x y : Operand) (n z top : ℕ) : Type 0 where
+  pub room : Room p n
+  pub aligned : Aligned x y n
   pub course : Course x y z
-  pub within : z < length target
+  pub within : z < n
   pub top-is : top ≡ x .exponent
   pub high : pairOf x y .same ≡ true → ltb mostExponent (top + 2) ≡ false
-  pub low : pairOf x y .same ≡ false → ltb (top + 1) (leastExponent + 64 * length target) ≡ false
+  pub low : pairOf x y .same ≡ false → ltb (top + 1) (leastExponent + 64 * n) ≡ false
+
+-- all that there is of their sum stands in the target, moved up by z columns, with a carry on top
+pub record Standing (p : ℕ) (x y : Operand) (target : List ℕ) (carry : Bool) (z top : ℕ) : Type 0 where
+  pub covered : Covered p x y (length target) z top
   pub value : bit carry * 2 ^ (64 * length target) + valueOf target ≡ readSum x y (length target) * 2 ^ (64 * z)
   pub led : carry ≡ false → 0 < getD target (length target - 1) 0

@@ -18,6 +18,9 @@ ghost use Rattle.place.specs.Placed.{runRule};
 ghost use Rattle.descent.specs.Ready.{Room};
 ghost use Rattle.wide.specs.Attempted.{Attempted};
 ghost use Rattle.aligned.specs.Aligned.{Aligned, Cancelling, Alike, Reducible, Subtracted, Standing};
+
+mod few; // few.rt: one or two limbs, by value
+
 use checks::Number;
 use choice::either_run;
 use place::Placed;
@@ -175,6 +178,26 @@ fn subtract<'a>(
     round_whole(mode, x.negative != swapped, false, z as u64, top, p, target)
 }
 
+// Two operands of unlike signs: one or two limbs by value where all digits of the difference are kept, else limb by limb.
+fn subtract_any<'a>(
+    mode: u8,
+    x: Number,
+    xl: &'a [u64],
+    y: Number,
+    yl: &'a [u64],
+    top: u64,
+    p: u64,
+    target: &mut [u64],
+) -> Wide
+    requires { ⌜ Room p (length (now target)) × Aligned (operandOf x (now xl)) (operandOf y (now yl)) (length (now target)) × (Bool·beq (x .negative) (y .negative) ≡ false) × (top ≡ operandOf x (now xl) .exponent) ⌝ }
+    ensures { λ r. ⌜ (length (now (target .exit)) ≡ length (now (target .entry))) × (r .open ≡ false → Attempted (modeOf mode) p (operandOf x (now (xl .entry))) (operandOf y (now (yl .entry))) (now (target .exit)) (r .negative) (r .placed) (r .depth) (r .first) (r .second)) ⌝ }
+{
+    if few::are_few(x.precision, y.precision, p, target.len()) {
+        return few::subtract(x, xl, y, yl, top, target);
+    }
+    subtract(mode, x, xl, y, yl, top, p, target)
+}
+
 // Adds two regular numbers of one exponent that have as many limbs as the target.
 pub fn attempt<'a>(
     mode: u8,
@@ -190,7 +213,7 @@ pub fn attempt<'a>(
 {
     let top = checks::counted_exponent(x.exponent);
     if x.negative != y.negative {
-        return subtract(mode, x, xl, y, yl, top, p, target);
+        return subtract_any(mode, x, xl, y, yl, top, p, target);
     }
     if bounds::is_high(top) {
         return nothing();

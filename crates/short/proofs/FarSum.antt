@@ -38,7 +38,7 @@ use Rattle.wide.specs.Filling.{Holding, Rounds}
 use Rattle.wide.proofs.Unread.{row-hole}
 use Rattle.wide.proofs.GuardBelow.{read-held}
 use Rattle.wide.proofs.InHollow.{number-falls}
-use Rattle.short.specs.Two.{headIn}
+use Rattle.twolimbs.specs.Two.{headIn}
 use Rattle.short.proofs.Held.{first-few, first-large, read-one, second-lim}
 
 -- a limb at the top of n, and zeros below

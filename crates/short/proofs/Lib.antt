@@ -1,4 +1,4 @@
-pub mod TwoLimbs
+pub mod Combined
 pub mod Held
 pub mod NearSum
 pub mod FarSum

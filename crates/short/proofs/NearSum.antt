@@ -2,31 +2,26 @@
 use mathlib.Core.Path.{_≡_, refl, sym, ap, _∙_, subst}
 use mathlib.Core.Bool.{Bool, true, false, cond, _&&_, true≢false}
 use mathlib.Core.List.{List, [], _∷_}
-use Prim.Native.Nat.{ℕ, zero, suc, _+_, _-_, _*_, _^_, _≤_, _<_, Ordering·eq}
-use native.Mathlib.Nat.{le-trans, le-of-eq, lt-of-lt-of-le, mul-assoc, mul-right-comm, mul-le-mul-right}
+use Prim.Native.Nat.{ℕ, _+_, _-_, _*_, _^_, _≤_, _<_, Ordering·eq}
+use native.Mathlib.Nat.{lt-of-lt-of-le, mul-assoc}
 use native.Mathlib.Omega.{arith}
 use borrow.Author.Tests.{le-leb, le-ltb, leb-true, ltb-false}
 use lib.Dec.{ltb, leb}
 use lib.Ieee.{size}
-use lib.Ieee.Digits.{size-lt}
 use lib.IntN.{pos}
 use lib.ListN.{length}
 use lib.Pow.{pow-add, pow-mono, shl-lt}
 use Rattle.limb.specs.Value.{valueOf, Below}
-use Rattle.limb.specs.Carry.{bit}
 use Rattle.limb.proofs.Value.{value-unique, base-pow}
 use Rattle.numbers.specs.Limits.{leastExponent, mostExponent, limbsFor}
 use Rattle.numbers.specs.Limbs.{limbsOf}
 use Rattle.numbers.specs.Operand.{Operand, spareBits}
 use Rattle.numbers.proofs.Digits.{limbs-count, limbs-below, limbs-value, digits-and-spare, precision-two}
 use Rattle.rounding.specs.Mode.{Mode, Way, way}
-use Rattle.rounding.specs.Select.{chosen}
 use Rattle.rounding.specs.Answer.{number, digits, signed}
-use Rattle.rounding.specs.Paper.{Rep, Written, kept}
+use Rattle.rounding.specs.Paper.{Rep, Written}
 use Rattle.rounding.specs.Sum.{add}
-use Rattle.rounding.proofs.Order.{compare-at}
-use Rattle.rounding.proofs.Scale.{exact}
-use Rattle.rounding.proofs.Range.{written, written-unique, accepted}
+use Rattle.rounding.proofs.Range.{written, written-unique}
 use Rattle.depth.specs.Columns.{topExponent}
 use Rattle.decide.specs.Decide.{decideAt}
 use Rattle.decide.proofs.Decision.{depth-decided}
@@ -51,37 +46,10 @@ use Rattle.wide.specs.Attempted.{Attempted}
 use Rattle.wide.proofs.Unread.{row-read}
 use Rattle.wide.proofs.Level.{short-open}
 use Rattle.wide.proofs.GuardBelow.{leads-held}
-use Rattle.short.specs.Two.{headIn, Brought}
-use Rattle.short.specs.declared.two.Normal.{Normal}
+use Rattle.twolimbs.specs.Two.{headIn, Brought}
+use Rattle.twolimbs.specs.declared.Normal.{Normal}
+use Rattle.twolimbs.proofs.Exact.{size-some, exact-rounded, written-longer, brought-written}
 use Rattle.short.proofs.Held.{first-few, second-few, top-told, sum-read, sum-lt, sum-size}
-
-size-some : (m : ℕ) → 0 < m → 1 ≤ size m
-size-some m h = go (size m) (size-lt m)
-  where
-    go : (z : ℕ) → m < 2 ^ z → 1 ≤ z
-    go zero l = absurd (omega arith)
-    go (suc z) l = omega arith
-
-signed-level : (n : Bool) → signed n Ordering·eq ≡ Ordering·eq
-unfolding signed
-signed-level true = refl
-signed-level false = refl
-
--- two limbs, the first digit of which is 1
-module _ (high low : ℕ) where
-  head-lt : high < 2 ^ 64 → low < 2 ^ 64 → headIn (2 ^ 64) false high low < 2 ^ 128
-  unfolding headIn bit
-  head-lt h l = lt-of-lt-of-le (go (2 ^ 64) h l) (le-of-eq (sym (pow-add 2 64 64)))
-    where
-      go : (B : ℕ) → high < B → low < B → (0 * B + high) * B + low < B * B
-      go B h l = omega (arith, mul-le-mul-right B h)
-
-  head-ge : 2 ^ 63 ≤ high → 2 ^ 127 ≤ headIn (2 ^ 64) false high low
-  unfolding headIn bit
-  head-ge h = le-trans (le-of-eq (pow-add 2 63 64)) (go (2 ^ 63) (2 ^ 64) h)
-    where
-      go : (H B : ℕ) → H ≤ high → H * B ≤ (0 * B + high) * B + low
-      go H B h = omega (arith, mul-le-mul-right B h)
 
 module _ (p : ℕ) (pair : Pair) (u v n : ℕ) (room : Room p n) (long : 2 < n) (near : pair .gap < 64) (high : ltb mostExponent (pair .top + 2) ≡ false) (low : ltb (pair .top + 1) (leastExponent + 64 * n) ≡ false)
     (o : Mode) (x y : Operand) (h : Holding x y pair (u ∷ []) (v ∷ [])) where
@@ -158,9 +126,6 @@ module _ (p : ℕ) (pair : Pair) (u v n : ℕ) (room : Room p n) (long : 2 < n) 
   rep : Rep p D
   rep = record { digits = D; shift = 0; few = few; is = omega arith }
 
-  same : chosen w p D ≡ D
-  same = exact w p D some-p rep
-
   module _ (r : Normal) (head : ℕ) (head-is : head ≡ cond (pair .same) (u * 2 ^ 64 + v * 2 ^ (64 - pair .gap)) (u * 2 ^ 64 - v * 2 ^ (64 - pair .gap))) (brought : Brought head (pair .top) r) (upper : r .high < 2 ^ 64) (lower : r .low < 2 ^ 64) where
     b : Brought D (pair .top) r
     b = subst (λ (m : ℕ). Brought m (pair .top) r) (head-is ∙ sym (sum-read x y pair u v h near)) brought
@@ -169,14 +134,7 @@ module _ (p : ℕ) (pair : Pair) (u v n : ℕ) (room : Room p n) (long : 2 < n) 
     N = headIn (2 ^ 64) false (r .high) (r .low)
 
     mine : Written p s D (N * 2 ^ (p - 128)) (r .exponent)
-    mine =
-        record {
-          first = le-trans (le-of-eq (ap (λ (m : ℕ). 2 ^ m) (let z : p - 1 ≡ 127 + (p - 128) = omega (arith, many) in z) ∙ pow-add 2 127 (p - 128))) (mul-le-mul-right (2 ^ (p - 128)) (head-ge (r .high) (r .low) (b .first)));
-          few = subst (λ (m : ℕ). N * 2 ^ (p - 128) < 2 ^ m) (let z : 128 + (p - 128) ≡ p = omega (arith, many) in z) (shl-lt 128 (p - 128) (head-lt (r .high) (r .low) upper lower));
-          worth =
-              mul-right-comm N (2 ^ (p - 128)) (2 ^ r .exponent) ∙ ap (λ (m : ℕ). m * 2 ^ (p - 128)) (b .worth) ∙ mul-assoc D (2 ^ pair .top) (2 ^ (p - 128))
-              ∙ ap (λ (m : ℕ). D * m) (sym (pow-add 2 (pair .top) (p - 128)) ∙ ap (λ (m : ℕ). 2 ^ m) (let z : pair .top + (p - 128) ≡ p + s = omega (arith, many, above, at-top) in z));
-        }
+    mine = written-longer 128 p s D N (r .exponent) (omega arith) (omega (arith, many)) (brought-written D D 0 s (pair .top) r b upper lower (omega arith) (omega (arith, above, at-top)))
 
     told : (digits p D ≡ N * 2 ^ (p - 128)) × (size D + s ≡ r .exponent)
     told = written-unique p s D (digits p D) (size D + s) (N * 2 ^ (p - 128)) (r .exponent) some-p (written p s D some-p D-some rep) mine
@@ -185,16 +143,13 @@ module _ (p : ℕ) (pair : Pair) (u v n : ℕ) (room : Room p n) (long : 2 < n) 
     exponent-some = omega (arith, size-some D D-some, told .1)
 
     answer : add o p x y ≡ number (x .negative) (r .exponent) (N * 2 ^ (p - 128)) Ordering·eq
-    answer = exact-sum o p some-p x y 2 d (omega arith) (omega (arith, above)) (lead 2 (omega arith)) (ends 2 (omega arith) two-end) ∙ accepted w p s (x .negative) D (rw same least) (rw same most) ∙ ap (kept p s (x .negative) D) same ∙ as-number
+    answer = exact-sum o p some-p x y 2 d (omega arith) (omega (arith, above)) (lead 2 (omega arith)) (ends 2 (omega arith) two-end) ∙ exact-rounded w p s (x .negative) D some-p rep least most ∙ rw (told .0, told .1) refl
       where
         least : leastExponent ≤ size D + s
         least = omega (arith, size-some D D-some, above, at-top, ltb-false (pair .top + 1) (leastExponent + 64 * n) low)
 
         most : size D + s ≤ mostExponent
         most = omega (arith, sum-size x y pair u v h 2, above, at-top, ltb-false mostExponent (pair .top + 2) high)
-
-        as-number : kept p s (x .negative) D D ≡ number (x .negative) (r .exponent) (N * 2 ^ (p - 128)) Ordering·eq
-        as-number = rw (told .0, told .1, compare-at Ordering·eq D D refl, signed-level (x .negative)) refl
 
     -- the digits, with zeros below them as far as the target goes
     spread : N * (2 ^ 64) ^ (n - 2) ≡ N * 2 ^ (p - 128) * 2 ^ spareBits p

@@ -1,6 +1,6 @@
 // Two limbs less than a limb apart: their sum stands in two limbs and is exact.
 ghost use mathlib.Core.Path.{_≡_};
-ghost use mathlib.Core.Bool.{Bool, false, cond};
+ghost use mathlib.Core.Bool.{Bool, true, false, cond};
 ghost use mathlib.Core.List.{[], _∷_};
 ghost use Prim.Native.Nat.{_+_, _-_, _*_, _%_, _^_, _≤_, _<_};
 ghost use lib.Dec.{ltb, leb};
@@ -10,15 +10,15 @@ ghost use Rattle.numbers.specs.Limits.{leastExponent, mostExponent};
 ghost use Rattle.rounding.specs.Mode.{Mode};
 ghost use Rattle.descent.specs.Ready.{Room};
 ghost use Rattle.wide.specs.Filling.{Offered};
-ghost use Rattle.short.specs.Two.{headIn};
+ghost use Rattle.twolimbs.specs.Two.{headIn};
 ghost use Rattle.short.specs.Short.{Tells};
-use crate::two::Head;
-use crate::two::columns;
-use crate::two::difference;
-use crate::two::normalize;
-use crate::two::sum;
 use place::Placed;
 use settle::Pair;
+use twolimbs::Head;
+use twolimbs::columns;
+use twolimbs::difference;
+use twolimbs::normalize;
+use twolimbs::sum;
 use wide::Wide;
 
 // Two limbs at the top of the target, and zeros below.
@@ -43,13 +43,18 @@ fn depth(gap: u64, second: u64) -> u64
 // The sum of two limbs, or their difference.
 fn combine(same: bool, u: u64, v: u64, gap: u64) -> Head
     requires { ⌜ (gap < 64) × (same ≡ false → v * 2 ^ (64 - gap) < u * 2 ^ 64) ⌝ }
-    ensures { λ r. ⌜ (headIn (2 ^ 64) (r .carry) (r .high) (r .low) ≡ cond same (u * 2 ^ 64 + v * 2 ^ (64 - gap)) (u * 2 ^ 64 - v * 2 ^ (64 - gap))) × (r .low % 2 ≡ 0) ⌝ }
+    ensures { λ r. ⌜ (headIn (2 ^ 64) (r .carry) (r .high) (r .low) ≡ cond same (u * 2 ^ 64 + v * 2 ^ (64 - gap)) (u * 2 ^ 64 - v * 2 ^ (64 - gap))) × (r .carry ≡ true → r .low % 2 ≡ 0) ⌝ }
 {
     let c = columns(v, gap);
     if same {
         return sum(u, c.high, c.low);
     }
-    difference(u, c.high, c.low)
+    let larger = Head {
+        carry: false,
+        high: u,
+        low: 0,
+    };
+    difference(larger, c)
 }
 
 // Adds two limbs in order, u the larger.

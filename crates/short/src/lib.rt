@@ -11,7 +11,6 @@ ghost use Rattle.wide.specs.Filling.{Holding, Offered};
 ghost use Rattle.wide.specs.Attempted.{Attempted};
 ghost use Rattle.short.specs.Short.{Tells};
 
-mod two; // two.rt: two columns, and their digits from the first on
 mod close; // close.rt: less than a limb apart
 mod apart; // apart.rt: more than the answer apart
 

@@ -12,8 +12,8 @@ use Rattle.aligned.proofs.attempt.Tie as tie
 counted-exponent-requires : tie.Need-counted-exponent-requires
 counted-exponent-requires c κs = search needs
 
-subtract-requires : tie.Need-subtract-requires
-subtract-requires c κs =
+subtract-any-requires : tie.Need-subtract-any-requires
+subtract-any-requires c κs =
     let s = c .before .before .before .before .before .before .before .before .before in
     let top = exponent-told (s .args .x) (s .args .xl .now) _ (rw (toZ-ofZ (record { sfits = c .before .before .before .before .before .struct-told .given .1 .1 .1 .0 .1 })) at (c .before .before .before .before .counted-exponent .ensures)) in
     (s .pre .7, aligned-told (s .args .x) (s .args .xl .now) (s .args .y) (s .args .yl .now) _ (s .pre .0) (s .pre .1) (s .pre .2) (s .pre .3) (s .pre .4) (s .pre .5) (s .pre .6), unlike-is _ (c .before .if1 .taken), top)
@@ -61,7 +61,7 @@ attempt-spec =
     tie.close
     (tie.spec
     counted-exponent-requires
-    subtract-requires
+    subtract-any-requires
     same-length
     returns
     is-high-requires

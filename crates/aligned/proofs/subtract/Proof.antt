@@ -16,7 +16,8 @@ use Rattle.descent.proofs.GoingDown.{room-some}
 use Rattle.wide.specs.Attempted.{Attempted}
 use Rattle.aligned.specs.Aligned.{Standing}
 use Rattle.aligned.proofs.Whole.{asks}
-use Rattle.aligned.proofs.AsFound.{top-modest, limbs-modest, as-many, cancels-told, sign-is, within-runs, reducible-told, difference-stands, difference-clean, difference-told, sign-kept}
+use Rattle.aligned.proofs.Stands.{limbs-modest}
+use Rattle.aligned.proofs.AsFound.{top-modest, as-many, cancels-told, sign-is, within-runs, reducible-told, difference-stands, difference-clean, difference-told, sign-kept}
 use borrow.Author.Needs.{needs}
 use Rattle.aligned.proofs.subtract.Statement.{statement}
 use Rattle.aligned.proofs.subtract.Tie as tie
@@ -108,13 +109,13 @@ clean k =
 signed : (k : tie.Else3) → not (Bool·beq (start k .args .x .negative) (swapped k)) ≡ cond (swapped k) (second k) (first k) .negative
 signed k =
     let s = start k in
-    sign-kept (s .args .p) (s .args .x) (s .args .xl .now) (s .args .y) (s .args .yl .now) (s .args .target .now) (s .args .top) (s .pre .0) (s .pre .1) _ (k .before .before .before .before .before .before .before .before .alike .ensures) (k .before .before .before .before .before .before .before .if2 .left) (s .pre .2) _ (k .before .before .before .before .before .before .is-second-larger .ensures)
+    sign-kept (s .args .p) (s .args .x) (s .args .xl .now) (s .args .y) (s .args .yl .now) (s .args .target .now) (s .args .top) (s .pre .0) (s .pre .1) (s .pre .2) (swapped k)
 
 told : (k : tie.Else3) {exit : List ℕ} {negative : Bool} {placed : Placed} (d i j : ℕ) → j ≡ i → Attempted (modeOf (start k .args .mode)) (start k .args .p) (cond (swapped k) (second k) (first k)) (cond (swapped k) (first k) (second k)) exit negative placed d i j
     → Attempted (modeOf (start k .args .mode)) (start k .args .p) (first k) (second k) exit negative placed d i j
 told k =
     let s = start k in
-    difference-told (s .args .p) (s .args .x) (s .args .xl .now) (s .args .y) (s .args .yl .now) (s .args .target .now) (s .args .top) (s .pre .0) (s .pre .1) _ (k .before .before .before .before .before .before .before .before .alike .ensures) (k .before .before .before .before .before .before .before .if2 .left) (s .pre .2) _ (k .before .before .before .before .before .before .is-second-larger .ensures) (s .args .mode)
+    difference-told (s .args .p) (s .args .x) (s .args .xl .now) (s .args .y) (s .args .yl .now) (s .args .target .now) (s .args .top) (s .pre .0) (s .pre .1) (swapped k) (modeOf (s .args .mode))
 
 settle-whole-requires : tie.Need-settle-whole-requires
 settle-whole-requires c κs =

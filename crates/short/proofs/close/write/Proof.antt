@@ -5,7 +5,7 @@ use Prim.Native.Nat.{ℕ, _-_, _^_}
 use native.Mathlib.Omega.{arith}
 use lib.ListN.{length, set, length-set}
 use Rattle.limb.specs.Value.{valueOf}
-use Rattle.short.proofs.TwoLimbs.{written-value}
+use Rattle.short.proofs.Combined.{written-value}
 use borrow.Author.Needs.{needs}
 use Rattle.short.proofs.close.write.Statement.{statement}
 use Rattle.short.proofs.close.write.Tie as tie

@@ -1,11 +1,11 @@
--- `short::two::raise` is right since the zeros above its first digit bring it to the top. Assumes nothing.
+-- `twolimbs::raise` is right since the zeros above its first digit bring it to the top. Assumes nothing.
 use native.Mathlib.Omega.{arith}
 use lib.Count.{leadingZeros}
 use Rattle.place.proofs.Normalized.{ToTop}
-use Rattle.short.proofs.TwoLimbs.{to-top, brought-up}
+use Rattle.twolimbs.proofs.TwoLimbs.{to-top, brought-up}
 use borrow.Author.Needs.{needs}
-use Rattle.short.proofs.two.raise.Statement.{statement}
-use Rattle.short.proofs.two.raise.Tie as tie
+use Rattle.twolimbs.proofs.raise.Statement.{statement}
+use Rattle.twolimbs.proofs.raise.Tie as tie
 
 top : (c : tie.Start) → ToTop (c .args .high) (leadingZeros 64 (c .args .high))
 top c = to-top (c .args .high) (c .args .low) (c .args .top) (c .pre .0) (c .fits .high .fits) (c .fits .low .fits) (c .pre .1)

@@ -1,25 +1,21 @@
 -- Two columns: those of a limb, a sum and a difference of two, and their digits brought to the top. Laws of limbs stand over any base B. Assumes nothing.
 use mathlib.Core.Path.{_≡_, refl, sym, ap, _∙_, subst}
-use mathlib.Core.Bool.{Bool, true, false, cond, true≢false}
-use mathlib.Core.List.{List, [], _∷_}
-use Prim.Native.Nat.{ℕ, zero, suc, _+_, _-_, _*_, _/_, _%_, _^_, _≤_, _<_}
+use mathlib.Core.Bool.{Bool, true, false, true≢false}
+use mathlib.Core.List.{[], _∷_}
+use Prim.Native.Nat.{ℕ, suc, _+_, _-_, _*_, _/_, _%_, _^_, _≤_, _<_}
 use native.Mathlib.Decide.{decLe}
 use native.Mathlib.Nat.{div-add-mod', add-mul-mod-self-left, mul-assoc, mul-div-mul-right, mul-le-mul-right, pow-succ'}
 use native.Mathlib.Omega.{arith}
 use lib.Bits.{bitOr, or-zero-r}
 use lib.Count.{leadingZeros}
-use lib.ListN.{length, getD, set, replicate, length-set, length-replicate, getD-replicate}
 use lib.Pow.{pow-add, pow-pos, shr-shr}
-use lib.Seq.{getD-set-other}
-use Rattle.limb.specs.Value.{valueIn}
 use Rattle.limb.specs.Carry.{bit}
-use Rattle.limb.proofs.Value.{value-set}
 use Rattle.kept.specs.Walk.{whole}
 use Rattle.kept.proofs.OneLimb.{one-value}
 use Rattle.kept.proofs.Reaching.{headed-true, headed-false}
 use Rattle.place.proofs.Normalized.{ToTop, brought-top, lowered, stays, raised}
-use Rattle.short.specs.Two.{headIn, Brought}
-use Rattle.short.specs.declared.two.Normal.{Normal}
+use Rattle.twolimbs.specs.Two.{headIn, Brought}
+use Rattle.twolimbs.specs.declared.Normal.{Normal}
 
 -- ---- the columns of a limb
 
@@ -66,19 +62,14 @@ sum-is B limb high low s carry e = go (bit carry) e
     go : (k : ℕ) → s + B * k ≡ limb + high + 0 → (k * B + s) * B + low ≡ limb * B + ((0 * B + high) * B + low)
     go k e = omega (arith, ap (λ (m : ℕ). m * B) e)
 
-pub difference-is : (B limb high low h l : ℕ) (b c : Bool) → h < B → l < B → headIn B false high low < limb * B → l + low + bit false ≡ 0 + B * bit b → h + high + bit b ≡ limb + B * bit c
-    → headIn B false h l ≡ limb * B - headIn B false high low
+pub difference-is : (B u s v t h l : ℕ) (b c : Bool) → h < B → l < B → headIn B false v t ≤ headIn B false u s → l + t + bit false ≡ s + B * bit b → h + v + bit b ≡ u + B * bit c
+    → headIn B false h l ≡ headIn B false u s - headIn B false v t
 unfolding headIn bit
-difference-is B limb high low h l b c H L less e f = go (bit b) c less e f
+difference-is B u s v t h l b c H L less e f = go (bit b) c less e f
   where
-    go : (k : ℕ) (c : Bool) → (0 * B + high) * B + low < limb * B → l + low + 0 ≡ 0 + B * k → h + high + k ≡ limb + B * bit c → (0 * B + h) * B + l ≡ limb * B - ((0 * B + high) * B + low)
+    go : (k : ℕ) (c : Bool) → (0 * B + v) * B + t ≤ (0 * B + u) * B + s → l + t + 0 ≡ s + B * k → h + v + k ≡ u + B * bit c → (0 * B + h) * B + l ≡ (0 * B + u) * B + s - ((0 * B + v) * B + t)
     go k true less e f = absurd (omega (arith, ap (λ (m : ℕ). m * B) f, mul-le-mul-right B H))
     go k false less e f = omega (arith, ap (λ (m : ℕ). m * B) f)
-
-pub difference-even : (low l : ℕ) (b : Bool) → low % 2 ≡ 0 → l + low + bit false ≡ 0 + 2 ^ 64 * bit b → l % 2 ≡ 0
-unfolding bit
-difference-even low l true z e = omega arith
-difference-even low l false z e = omega arith
 
 -- ---- the digits from the first on
 
@@ -184,34 +175,3 @@ low-some false high low e z h = go (2 ^ 64) high z h
   where
     go : (B m : ℕ) → m ≡ 0 → 0 < (0 * B + m) * B + low → 0 < low
     go B m z h = omega (arith, ap (λ (k : ℕ). k * B) z)
-
-pub combined : (same : Bool) (a b c h : ℕ) → same ≡ true → h ≡ a + b → b ≡ c → h ≡ cond same (a + c) (a - c)
-combined true a b c h s e f = e ∙ ap (λ (m : ℕ). a + m) f
-combined false a b c h s e f = absurd (true≢false (sym s))
-
-pub parted : (same : Bool) (a b c h : ℕ) → same ≡ false → h ≡ a - b → b ≡ c → h ≡ cond same (a + c) (a - c)
-parted true a b c h s e f = absurd (true≢false s)
-parted false a b c h s e f = e ∙ ap (λ (m : ℕ). a - m) f
-
--- ---- two limbs at the top of a target
-
-module _ (B : ℕ) where
-  zeros-worth : (n : ℕ) → valueIn B (replicate n 0) ≡ 0
-  unfolding valueIn
-  zeros-worth zero = refl
-  zeros-worth (suc n) = omega (arith, ap (λ (m : ℕ). B * m) (zeros-worth n))
-
-  pub written-value : (n high low : ℕ) → 1 < n → valueIn B (set (set (replicate n 0) (n - 1) high) (n - 2) low) ≡ headIn B false high low * B ^ (n - 2)
-  unfolding headIn bit
-  written-value n high low some =
-      let R : List ℕ = replicate n 0 in
-      let size : length R ≡ n = length-replicate n 0 in
-      let lower = value-set B (set R (n - 1) high) (n - 2) low (omega (arith, size, length-set R (n - 1) high)) in
-      let upper = value-set B R (n - 1) high (omega (arith, size)) in
-      let beside : getD (set R (n - 1) high) (n - 2) 0 ≡ 0 = getD-set-other R (n - 1) (n - 2) high 0 (λ e. omega arith) ∙ getD-replicate n (n - 2) 0 0 (omega arith) in
-      let here : getD R (n - 1) 0 ≡ 0 = getD-replicate n (n - 1) 0 0 (omega arith) in
-      let power : B ^ (n - 1) ≡ B * B ^ (n - 2) = ap (λ (m : ℕ). B ^ m) (let i : n - 1 ≡ suc (n - 2) = omega arith in i) ∙ pow-succ' B (n - 2) in
-      go (valueIn B (set (set R (n - 1) high) (n - 2) low)) (valueIn B (set R (n - 1) high)) (B ^ (n - 2)) (rw (beside) at lower) (rw (here, zeros-worth n, power) at upper)
-    where
-      go : (v w Q : ℕ) → v + Q * 0 ≡ w + Q * low → w + B * Q * 0 ≡ 0 + B * Q * high → v ≡ ((0 * B + high) * B + low) * Q
-      go v w Q e f = omega arith

@@ -1,10 +1,10 @@
--- `short::two::sum` is right since the second column stays. Assumes nothing.
+-- `twolimbs::sum` is right since the second column stays. Assumes nothing.
 use mathlib.Core.Path.{refl}
 use Prim.Native.Nat.{_^_}
-use Rattle.short.proofs.TwoLimbs.{sum-is}
+use Rattle.twolimbs.proofs.TwoLimbs.{sum-is}
 use borrow.Author.Needs.{needs}
-use Rattle.short.proofs.two.sum.Statement.{statement}
-use Rattle.short.proofs.two.sum.Tie as tie
+use Rattle.twolimbs.proofs.sum.Statement.{statement}
+use Rattle.twolimbs.proofs.sum.Tie as tie
 
 add-carry-requires : tie.Need-add-carry-requires
 add-carry-requires c κs = search needs

@@ -1,13 +1,13 @@
-// Two columns.
+// Two columns, by value.
 //
 //     larger   [ limb     ]
 //     other        [ limb     ]
 //              [ high     ][ low      ]
 //
 ghost use mathlib.Core.Path.{_≡_};
-ghost use mathlib.Core.Bool.{false};
+ghost use mathlib.Core.Bool.{true, false};
 ghost use Prim.Native.Nat.{_+_, _-_, _*_, _%_, _^_, _≤_, _<_};
-ghost use Rattle.short.specs.Two.{headIn, Brought};
+ghost use Rattle.twolimbs.specs.Two.{headIn, Brought};
 
 // 2^63: the first digit of a limb.
 const FIRST_DIGIT: u64 = 9223372036854775808;
@@ -44,13 +44,13 @@ pub fn sum(limb: u64, high: u64, low: u64) -> Head
     }
 }
 
-// A limb at the top, less two columns.
-pub fn difference(limb: u64, high: u64, low: u64) -> Head
-    requires { ⌜ (headIn (2 ^ 64) false high low < limb * 2 ^ 64) × (low % 2 ≡ 0) ⌝ }
-    ensures { λ r. ⌜ (headIn (2 ^ 64) (r .carry) (r .high) (r .low) ≡ limb * 2 ^ 64 - headIn (2 ^ 64) false high low) × (r .low % 2 ≡ 0) ⌝ }
+// Two columns, less two columns.
+pub fn difference(first: Head, second: Head) -> Head
+    requires { ⌜ headIn (2 ^ 64) false (second .high) (second .low) ≤ headIn (2 ^ 64) false (first .high) (first .low) ⌝ }
+    ensures { λ r. ⌜ (r .carry ≡ false) × (headIn (2 ^ 64) false (r .high) (r .low) ≡ headIn (2 ^ 64) false (first .high) (first .low) - headIn (2 ^ 64) false (second .high) (second .low)) ⌝ }
 {
-    let l = limb::sub_borrow(0, low, false);
-    let h = limb::sub_borrow(limb, high, l.borrow);
+    let l = limb::sub_borrow(first.low, second.low, false);
+    let h = limb::sub_borrow(first.high, second.high, l.borrow);
     Head {
         carry: false,
         high: h.difference,
@@ -81,9 +81,9 @@ fn raise(high: u64, low: u64, top: u64) -> Normal
     }
 }
 
-// The digits of two columns, none of which stands in the last place: a carry moves them down by one.
+// The digits of two columns. A carry moves them down by one: then none of them stands in the last place.
 pub fn normalize(carry: bool, high: u64, low: u64, top: u64) -> Normal
-    requires { ⌜ (0 < headIn (2 ^ 64) carry high low) × (low % 2 ≡ 0) × (128 ≤ top) × (top < 2 ^ 63) ⌝ }
+    requires { ⌜ (0 < headIn (2 ^ 64) carry high low) × (carry ≡ true → low % 2 ≡ 0) × (128 ≤ top) × (top < 2 ^ 63) ⌝ }
     ensures { λ r. ⌜ Brought (headIn (2 ^ 64) carry high low) top r ⌝ }
 {
     if carry {

@@ -1,8 +1,8 @@
--- `short::two::columns` is right since what leaves the limb below is the second column. Assumes nothing.
-use Rattle.short.proofs.TwoLimbs.{columns-are, columns-even}
+-- `twolimbs::columns` is right since what leaves the limb below is the second column. Assumes nothing.
+use Rattle.twolimbs.proofs.TwoLimbs.{columns-are, columns-even}
 use borrow.Author.Needs.{needs}
-use Rattle.short.proofs.two.columns.Statement.{statement}
-use Rattle.short.proofs.two.columns.Tie as tie
+use Rattle.twolimbs.proofs.columns.Statement.{statement}
+use Rattle.twolimbs.proofs.columns.Tie as tie
 
 sub-low : tie.Need-sub-low
 sub-low c = search needs

@@ -3,7 +3,7 @@ use Prim.Native.Nat.{ℕ, _+_, _*_, _^_, _≤_}
 use mathlib.Core.Path.{_≡_}
 use mathlib.Core.Bool.{Bool, false}
 use Rattle.limb.specs.Carry.{bit}
-use Rattle.short.specs.declared.two.Normal.{Normal}
+use Rattle.twolimbs.specs.declared.Normal.{Normal}
 
 -- a carry and two limbs, in base B
 unfoldable pub headIn : ℕ → Bool → ℕ → ℕ → ℕ

@@ -1,15 +1,15 @@
--- `short::two::normalize` is right in each case: a carry, none, and a column of zeros. Assumes nothing.
+-- `twolimbs::normalize` is right in each case: a carry, none, and a column of zeros. Assumes nothing.
 use native.Mathlib.Omega.{arith}
-use Rattle.short.proofs.TwoLimbs.{brought-carry, brought-plain, brought-zeros, low-some}
+use Rattle.twolimbs.proofs.TwoLimbs.{brought-carry, brought-plain, brought-zeros, low-some}
 use borrow.Author.Needs.{needs}
-use Rattle.short.proofs.two.normalize.Statement.{statement}
-use Rattle.short.proofs.two.normalize.Tie as tie
+use Rattle.twolimbs.proofs.normalize.Statement.{statement}
+use Rattle.twolimbs.proofs.normalize.Tie as tie
 
 add-t11 : tie.Need-add-t11
 add-t11 c = search needs
 
 returns : tie.Need-returns
-returns c = let s = c .before in brought-carry (s .args .carry) (s .args .high) (s .args .low) (s .args .top) (c .if1 .taken) (s .fits .high .fits) (s .fits .low .fits) (s .pre .1)
+returns c = let s = c .before in brought-carry (s .args .carry) (s .args .high) (s .args .low) (s .args .top) (c .if1 .taken) (s .fits .high .fits) (s .fits .low .fits) (s .pre .1 (c .if1 .taken))
 
 sub-raise : tie.Need-sub-raise
 sub-raise c = search needs

@@ -1,0 +1,2 @@
+pub mod TwoLimbs
+pub mod Exact
