@@ -50,12 +50,14 @@ module _ (p : ℕ) (pair : Pair) (u v : ℕ) (f : Facing p pair u) (k : AllKept 
   unlike : pairOf x y .same ≡ false
   unlike = apart x y pair u v h (k .unlike)
 
+  -- the column has all of both, and they are alike in it
   row : rowOf (pairOf x y) 1 ≡ Exact
   row = here pair x y (h .pair-is) (whole-row pair (f .second-some) (whole p pair u v f k))
 
   alike : readTo 1 (pairOf x y .gap) (y .limbs) ≡ readTo 1 0 (x .limbs)
   alike = second-read x y pair u v h ∙ sym level ∙ sym (first-read x y pair u v h)
 
+  -- so it fixes the answer, which is a zero
   fixed : decideAt o p x y 1 ≡ true
   unfolding exact?
   fixed = equal-decision o p positive x y 1 (h .ordered) (omega arith) unlike alike ∙ ap exact? row
@@ -73,6 +75,7 @@ module _ (p : ℕ) (pair : Pair) (u v : ℕ) (f : Facing p pair u) (k : AllKept 
       one : 1 ≡ limbsFor p
       one = unfold limbsFor in omega (arith, two-digits, f .least, f .most)
 
+  -- its sign is told by that of the first
   sign-is : {a b : Bool} → a ≡ x .negative → b ≡ zeroSign o a (not a) → zeroSign o (x .negative) (y .negative) ≡ b
   sign-is i s = two-signs o (x .negative) (y .negative) (sym (pair-same x y (h .regular)) ∙ unlike) ∙ sym (rw (← i) s)
 

@@ -28,6 +28,7 @@ module _ (s : Pair) (some : 0 < s .second) where
   clash : leb (s .gap + s .second) 64 ≡ true → leb 64 (s .gap) ≡ true → ⊥
   clash b f = omega (arith, leb-true (s .gap + s .second) 64 b, leb-true 64 (s .gap) f)
 
+  -- all of both is read; or all of the first, and nothing of the second
   pub whole-row : isWhole s ≡ true → rowOf s 1 ≡ Exact
   unfolding rowOf
   whole-row h = let t = both-true (leb (s .first) 64) (leb (s .gap + s .second) 64) h in rw (there, t .0, t .1) refl

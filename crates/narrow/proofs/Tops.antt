@@ -47,6 +47,7 @@ module _ (x y : Operand) (pair : Pair) (u v : ℕ) (h : Held x y pair u v) where
       top-read (pairOf x y .gap) (y .limbs) (h .ordered .second .limb) (limbs-some y (h .ordered .second))
       ∙ ap (λ (n : ℕ). n / 2 ^ pairOf x y .gap) (sym (h .second-top)) ∙ ap (λ (s : Pair). v / 2 ^ s .gap) (sym (h .pair-is))
 
+  -- the signs are like or unlike, as the pair says
   pub apart : {b : Bool} → pair .same ≡ b → pairOf x y .same ≡ b
   apart e = ap (λ (s : Pair). s .same) (sym (h .pair-is)) ∙ e
 

@@ -10,6 +10,7 @@ use borrow.Author.Needs.{needs}
 use Rattle.narrow.proofs.seeing.see_exact.Statement.{statement}
 use Rattle.narrow.proofs.seeing.see_exact.Tie as tie
 
+-- what is neither less nor alike is larger
 above : (m n : ℕ) → (m ≡ n → ⊥) → n ≤ m → n < m
 above m n h l = omega arith
 
