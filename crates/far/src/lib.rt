@@ -20,22 +20,11 @@ ghost use Rattle.far.specs.Alone.{Alone, Answered};
 use choice::either;
 use location::Location;
 use location::rounds_up;
+use parts::copy;
 use place::Placed;
 use settle::Pair;
 use wide::Wide;
 use wide::nothing;
-
-// Copies limbs into a target of as many.
-fn copy(target: &mut [u64], source: &[u64])
-    requires { ⌜ length (now source) ≡ length (now target) ⌝ }
-    ensures { λ r. ⌜ now (target .exit) ≡ now (source .entry) ⌝ }
-{
-    let mut i = 0;
-    while i < target.len() {
-        target[i] = source[i];
-        i += 1;
-    }
-}
 
 // Fills the target with the first operand's limbs, or with one less. Returns the guard below them.
 fn fill(same: bool, first: &[u64], target: &mut [u64]) -> u64

@@ -1,7 +1,8 @@
-// Parts of a run of limbs: one limb, the limbs from a place on, clearing, trimming.
+// Parts of a run of limbs: one limb, the limbs from a place on, clearing, copying, trimming.
 ghost use mathlib.Core.Path.{_≡_};
-ghost use Prim.Native.Nat.{_≤_};
+ghost use Prim.Native.Nat.{_+_, _≤_};
 ghost use lib.ListN.{length, getD, drop, replicate};
+ghost use Rattle.parts.specs.Copied.{CopiedTo};
 ghost use Rattle.parts.specs.Trimmed.{trimmed};
 
 // The limb at i, and 0 past the end.
@@ -28,6 +29,47 @@ pub fn clear(target: &mut [u64])
         target[i] = 0;
         i += 1;
     }
+}
+
+// Copies four limbs from limb i on, all read before one is written: the compiler moves two at once.
+fn copy_four(target: &mut [u64], source: &[u64], i: usize)
+    requires { ⌜ (i + 4 ≤ length (now target)) × CopiedTo i (now source) (now target) ⌝ }
+    ensures { λ r. ⌜ CopiedTo (i + 4) (now (source .entry)) (now (target .exit)) ⌝ }
+{
+    let a = source[i];
+    let b = source[i + 1];
+    let c = source[i + 2];
+    let d = source[i + 3];
+    target[i] = a;
+    target[i + 1] = b;
+    target[i + 2] = c;
+    target[i + 3] = d;
+}
+
+// Copies the limbs from limb `start` on, one by one.
+fn copy_rest(target: &mut [u64], source: &[u64], start: usize)
+    requires { ⌜ (start ≤ length (now target)) × CopiedTo start (now source) (now target) ⌝ }
+    ensures { λ r. ⌜ now (target .exit) ≡ now (source .entry) ⌝ }
+{
+    let mut i = start;
+    while i < source.len() {
+        target[i] = source[i];
+        i += 1;
+    }
+}
+
+// Copies limbs into a target of as many.
+pub fn copy(target: &mut [u64], source: &[u64])
+    requires { ⌜ length (now source) ≡ length (now target) ⌝ }
+    ensures { λ r. ⌜ now (target .exit) ≡ now (source .entry) ⌝ }
+{
+    let mut i = 0;
+    while i + 8 <= target.len() {
+        copy_four(target, source, i);
+        copy_four(target, source, i + 4);
+        i += 8;
+    }
+    copy_rest(target, source, i)
 }
 
 // How many limbs at the bottom are 0: the place of the lowest one that is not, or the end.

@@ -8,12 +8,12 @@ use mathlib.Core.List.{List}
 use lib.ListN.{length, take, drop, getD, set, length-set, length-drop}
 use lib.Arith.{digits-lt, mod-mul}
 use lib.Pow.{pow-pos, pow-add, mod-pow-add, shl-shr, shr-shr, shr-lt}
-use lib.Seq.{take-length, take-set-le, getD-set-same}
+use lib.Seq.{take-length, length-take-le, take-set-le, getD-set-same}
 use lib.Bits.{bitOr, or-shifted-r}
 use borrow.Rule.Slice.PartMut.{putMid, same-len-mid}
 use Rattle.limb.proofs.Powers.{moved-twice}
 use Rattle.limb.specs.Value.{valueIn, Below}
-use Rattle.limb.proofs.Value.{value-nil, value-unique, value-take, value-drop, value-shr, base-pow}
+use Rattle.limb.proofs.Value.{value-nil, value-unique, value-take, value-drop, value-low, value-shr, base-pow}
 use Rattle.shifts.specs.LowLimbs.{LowLimbs}
 use Rattle.parts.proofs.Parts.{part-is, put-value}
 
@@ -154,6 +154,10 @@ module _ (l : List ℕ) (k i : ℕ) (h : Below (2 ^ 64) l) where
 -- the 64 bits at bit b of limb i of x are limb i of x moved down by b bits
 pub window-moved : (x b i : ℕ) → x / 2 ^ (64 * i + b) % 2 ^ 64 ≡ x / 2 ^ b / 2 ^ (64 * i) % 2 ^ 64
 window-moved x b i = ap (λ (m : ℕ). m % 2 ^ 64) (ap (λ (m : ℕ). x / 2 ^ m) (add-comm (64 * i) b) ∙ sym (shr-shr x b (64 * i)))
+
+-- the lowest n limbs of a run
+pub lowest-limbs : (l : List ℕ) (n : ℕ) → n ≤ length l → Below (2 ^ 64) l → LowLimbs n (valueIn (2 ^ 64) l) (take n l)
+lowest-limbs l n h b = record { size = length-take-le n l h; value = sym (value-low (2 ^ 64) n l b) }
 
 -- the limbs of a number y on their way into t₀, which has become t: those below limb i are there
 pub record WrittenTo (i y : ℕ) (t₀ t : List ℕ) : Type 0 where

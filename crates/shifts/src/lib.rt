@@ -5,6 +5,7 @@ ghost use lib.Dec.{eqb};
 ghost use lib.ListN.{length};
 ghost use Rattle.limb.specs.Value.{valueOf};
 ghost use Rattle.shifts.specs.LowLimbs.{LowLimbs};
+use parts::copy;
 use parts::limb_at;
 use parts::part_from;
 
@@ -39,11 +40,7 @@ fn copy_into(target: &mut [u64], s: &[u64])
     requires { ⌜ length (now target) ≤ length (now s) ⌝ }
     ensures { λ r. ⌜ LowLimbs (length (now (target .entry))) (valueOf (now (s .entry))) (now (target .exit)) ⌝ }
 {
-    let mut i = 0;
-    while i < target.len() {
-        target[i] = s[i];
-        i += 1;
-    }
+    copy(target, &s[0..target.len()])
 }
 
 // The run moved down by less than a limb, window by window, 0 beyond its end.

@@ -1,68 +1,39 @@
--- `shifts::copy_into` is right since limb i of the run is written at i. Assumes nothing.
-use Prim.Native.Nat.{_-_, _^_, _≤_}
-use native.Mathlib.Omega.{arith}
-use lib.ListN.{length, length-set}
-use Rattle.limb.specs.Value.{valueIn}
-use Rattle.shifts.proofs.Windows.{WrittenTo, none-written, limb-written, all-written, limb-bits}
+-- `shifts::copy_into` is right since it copies as many of the lowest limbs as the target has. Assumes nothing.
+use mathlib.Core.Path.{sym, subst}
+use Prim.Native.Nat.{ℕ}
+use native.Mathlib.Nat.{sub-zero}
+use lib.ListN.{length}
+use Rattle.limb.specs.Value.{valueOf}
+use Rattle.shifts.specs.LowLimbs.{LowLimbs}
+use Rattle.shifts.proofs.Windows.{lowest-limbs}
 use borrow.Author.Needs.{needs}
 use Rattle.shifts.proofs.copy_into.Statement.{statement}
 use Rattle.shifts.proofs.copy_into.Tie as tie
 
-abbrev Inv-loop : tie.InvT-loop
-Inv-loop target₀ s i₀ target i = (i ≤ length target₀) × WrittenTo i (valueIn (2 ^ 64) s) target₀ target
+sub-copy : tie.Need-sub-copy
+sub-copy c = search needs
 
-abbrev μ-loop : tie.MeasureT-loop
-μ-loop target₀ s i₀ target i = length target - i
+part-copy-start : tie.Need-part-copy-start
+part-copy-start c = search needs
 
-loop-holds : tie.Need-loop-holds Inv-loop μ-loop
-loop-holds c = (search needs, none-written _ _)
+part-copy-end : tie.Need-part-copy-end
+part-copy-end c = search needs
 
-mul-target : tie.Need-mul-target Inv-loop μ-loop
-mul-target c = search needs
+copy-requires : tie.Need-copy-requires
+copy-requires c κs = search needs
 
-shared-slice-read-target : tie.Need-shared-slice-read-target Inv-loop μ-loop
-shared-slice-read-target c = search needs
-
-mul-target-2 : tie.Need-mul-target-2 Inv-loop μ-loop
-mul-target-2 c = search needs
-
-slice-write-target : tie.Need-slice-write-target Inv-loop μ-loop
-slice-write-target c = search needs
-
-add-i : tie.Need-add-i Inv-loop μ-loop
-add-i c = search needs
-
-loop-less : tie.Need-loop-less Inv-loop μ-loop
-loop-less c = simp length-set (omega arith)
-
-loop-again : tie.Need-loop-again Inv-loop μ-loop
-loop-again c = (
-  search needs,
-  let l = c .before .before .loop in
-      limb-written _ _ (l .target) (l .i) _ (omega arith) (limb-bits _ (l .i) (λ i. c .shared-slice-known .given i .fits)) (l .inv .1),
-)
-
-same-length : tie.Need-same-length Inv-loop μ-loop
+same-length : tie.Need-same-length
 same-length c = search needs
 
-returns : tie.Need-returns Inv-loop μ-loop
+returns : tie.Need-returns
 returns c =
-    let l = c .before .loop in
-    all-written _ _ _ (l .i) (omega arith) (l .inv .1)
+    let copied = c .before .before in
+    let known = copied .before .before .before in
+    let start = known .before .before in
+    let n : ℕ = length (start .args .target .now) in
+    subst (LowLimbs n (valueOf (start .args .s .now))) (sym (rw (sub-zero n) at (copied .copy .ensures)))
+    (lowest-limbs (start .args .s .now) n (start .pre) (λ i. known .shared-slice-known .given i .fits))
 
 pub copy-into-spec : {M : Type 1} → statement M
 copy-into-spec =
-    tie.close
-    (tie.spec
-    Inv-loop
-    μ-loop
-    loop-holds
-    mul-target
-    shared-slice-read-target
-    mul-target-2
-    slice-write-target
-    add-i
-    loop-less
-    loop-again
-    same-length
-    returns)
+    tie.close (tie.spec sub-copy part-copy-start part-copy-end copy-requires same-length returns)

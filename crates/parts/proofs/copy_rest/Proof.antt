@@ -1,22 +1,21 @@
--- `far::copy` is right since after i turns the lowest i limbs are the source's. Assumes nothing.
-use mathlib.Core.Path.{_≡_, refl, sym, _∙_}
+-- `parts::copy_rest` is right since in every turn the limbs below limb i are the source's. Assumes nothing.
 use Prim.Native.Nat.{_-_, _≤_}
 use native.Mathlib.Omega.{arith}
-use lib.ListN.{length, take, length-set}
-use lib.Seq.{take-all}
-use Rattle.far.proofs.Limbs.{copied-more}
+use lib.ListN.{length}
+use Rattle.parts.specs.Copied.{CopiedTo}
+use Rattle.parts.proofs.Copying.{limb-copied, all-copied}
 use borrow.Author.Needs.{needs}
-use Rattle.far.proofs.copy.Statement.{statement}
-use Rattle.far.proofs.copy.Tie as tie
+use Rattle.parts.proofs.copy_rest.Statement.{statement}
+use Rattle.parts.proofs.copy_rest.Tie as tie
 
 abbrev Inv-loop : tie.InvT-loop
-Inv-loop target₀ source i₀ target i = (i ≤ length target₀) × (length target ≡ length target₀) × (take i target ≡ take i source)
+Inv-loop target₀ source start i₀ target i = (i ≤ length target₀) × CopiedTo i source target
 
 abbrev μ-loop : tie.MeasureT-loop
-μ-loop target₀ source i₀ target i = length target - i
+μ-loop target₀ source start i₀ target i = length source - i
 
 loop-holds : tie.Need-loop-holds Inv-loop μ-loop
-loop-holds c = (search needs, search needs, refl)
+loop-holds c = search needs
 
 mul-target : tie.Need-mul-target Inv-loop μ-loop
 mul-target c = search needs
@@ -34,14 +33,13 @@ add-i : tie.Need-add-i Inv-loop μ-loop
 add-i c = search needs
 
 loop-less : tie.Need-loop-less Inv-loop μ-loop
-loop-less c = simp length-set (omega arith)
+loop-less c = search needs
 
 loop-again : tie.Need-loop-again Inv-loop μ-loop
 loop-again c = (
   search needs,
-  simp length-set (omega arith),
   let l = c .before .before .loop in
-      copied-more (l .target) _ (l .i) (omega arith) (omega arith) (l .inv .2),
+      limb-copied _ (l .target) (l .i) (omega arith) (l .inv .1),
 )
 
 same-length : tie.Need-same-length Inv-loop μ-loop
@@ -50,10 +48,10 @@ same-length c = search needs
 returns : tie.Need-returns Inv-loop μ-loop
 returns c =
     let l = c .before .loop in
-    sym (take-all (l .i) (l .target) (omega arith)) ∙ l .inv .2 ∙ take-all (l .i) _ (omega arith)
+    all-copied _ (l .target) (l .i) (omega arith) (l .inv .1)
 
-pub copy-spec : {M : Type 1} → statement M
-copy-spec =
+pub copy-rest-spec : {M : Type 1} → statement M
+copy-rest-spec =
     tie.close
     (tie.spec
     Inv-loop
