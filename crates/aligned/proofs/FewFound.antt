@@ -6,14 +6,14 @@ use mathlib.Core.List.{List}
 use Prim.Native.Nat.{ℕ, _+_, _-_, _*_, _/_, _^_, _≤_, _<_}
 use native.Mathlib.Nat.{mul-pos}
 use native.Mathlib.Omega.{arith}
-use borrow.Author.Tests.{eq-eqb, leb-true}
+use borrow.Author.Tests.{eqb-true, eq-eqb, leb-true}
 use lib.Dec.{ltb, leb, eqb}
 use lib.IntN.{pos}
 use lib.ListN.{length}
 use lib.Pow.{pow-pos}
 use Rattle.limb.specs.Value.{valueOf, Below}
 use Rattle.limb.specs.Carry.{bit}
-use Rattle.limb.proofs.Tests.{true-false, both-true, and-both}
+use Rattle.limb.proofs.Tests.{true-false, both-true, and-both, zero-times}
 use Rattle.numbers.specs.Limits.{leastExponent}
 use Rattle.numbers.specs.Operand.{Operand}
 use Rattle.rounding.specs.Mode.{Mode}
@@ -27,7 +27,7 @@ use Rattle.descent.specs.Ready.{Room}
 use Rattle.ending.proofs.Handed.{beq-turned}
 use Rattle.ending.proofs.RegularEnd.{deep-enough}
 use Rattle.wide.specs.Attempted.{Attempted}
-use Rattle.aligned.specs.Aligned.{Aligned}
+use Rattle.aligned.specs.Aligned.{Aligned, Cancelling}
 use Rattle.aligned.specs.Few.{Few, Differs}
 use Rattle.aligned.specs.declared.few.Apart.{Apart}
 use Rattle.aligned.proofs.Parting.{Parted, Parts, parts, unlike-told}
@@ -49,6 +49,21 @@ differs-some high low e = elim (le-or-lt low 0) [
     upper : (B : ℕ) → 0 < high * B → 0 < (0 * B + high) * B + low
     upper B l = omega arith
 
+-- where neither is, the runs are worth the same
+pub differs-none : (a b : List ℕ) (d : Apart) → Differs a b d → (eqb (d .high) 0 && eqb (d .low) 0) ≡ true → valueOf b ≡ valueOf a
+unfolding headIn bit
+differs-none a b d t e = level (d .swapped) (t .order) (eqb-true _ 0 (sym (zero-times _ _ (pow-pos (64 * (2 - length a)))) ∙ eq-eqb _ 0 (sym (t .worth) ∙ empty (2 ^ 64))))
+  where
+    limbs : (eqb (d .high) 0 ≡ true) × (eqb (d .low) 0 ≡ true)
+    limbs = both-true (eqb (d .high) 0) (eqb (d .low) 0) e
+
+    empty : (B : ℕ) → (0 * B + d .high) * B + d .low ≡ 0
+    empty B = rw (eqb-true (d .high) 0 (limbs .0), eqb-true (d .low) 0 (limbs .1)) (omega arith)
+
+    level : (s : Bool) → valueOf (cond s a b) ≤ valueOf (cond s b a) → valueOf (cond s b a) - valueOf (cond s a b) ≡ 0 → valueOf b ≡ valueOf a
+    level true h k = omega arith
+    level false h k = omega arith
+
 -- the test that the code makes
 pub few-tested : {r : Bool} (n i j p : ℕ) → r ≡ (leb n 2 && (leb i p && leb j p)) → r ≡ true → (n ≤ 2) × (i ≤ p) × (j ≤ p)
 few-tested n i j p e f =
@@ -60,6 +75,12 @@ few-tested n i j p e f =
 pub lengths-told : (x : Number) (xl : List ℕ) (y : Number) (yl : List ℕ) (n : ℕ) → Few n → Aligned (operandOf x xl) (operandOf y yl) n → Few (length xl) × (length yl ≡ length xl)
 unfolding operandOf
 lengths-told x xl y yl n f a = (subst Few (sym (a .first-limbs)) f, a .second-limbs ∙ sym (a .first-limbs))
+
+-- operands of unlike signs of which no limbs differ cancel
+pub few-cancels : (x : Number) (xl : List ℕ) (y : Number) (yl : List ℕ) (n : ℕ) → Aligned (operandOf x xl) (operandOf y yl) n → Bool·beq (x .negative) (y .negative) ≡ false → (d : Apart) → Differs xl yl d → (eqb (d .high) 0 && eqb (d .low) 0) ≡ true
+    → Cancelling (operandOf x xl) (operandOf y yl) n
+unfolding operandOf
+few-cancels x xl y yl n a unlike d t e = record { aligned = a; unlike = unlike; level = differs-none xl yl d t e }
 
 -- the exponent of an operand leaves room for two columns
 pub columns-two : (x y : Operand) (n top : ℕ) → Aligned x y n → top ≡ x .exponent → 128 ≤ top

@@ -17,6 +17,7 @@ ghost use Rattle.descent.specs.Ready.{Room};
 ghost use Rattle.wide.specs.Attempted.{Attempted};
 ghost use Rattle.aligned.specs.Aligned.{Aligned};
 ghost use Rattle.aligned.specs.Few.{Few, Differs};
+use crate::cancelled;
 use checks::Number;
 use place::Placed;
 use twolimbs::Head;
@@ -92,10 +93,18 @@ pub fn are_few(first: u64, second: u64, p: u64, n: usize) -> bool
     (n <= 2) & ((first <= p) & (second <= p))
 }
 
-// Two operands of unlike signs. Left open where a refusal is near, and where no limbs differ.
-pub fn subtract(x: Number, xl: &[u64], y: Number, yl: &[u64], top: u64, target: &mut [u64]) -> Wide
+// Two operands of unlike signs. Left open where a refusal is near.
+pub fn subtract(
+    mode: u8,
+    x: Number,
+    xl: &[u64],
+    y: Number,
+    yl: &[u64],
+    top: u64,
+    target: &mut [u64],
+) -> Wide
     requires { ⌜ Few (length (now target)) × Aligned (operandOf x (now xl)) (operandOf y (now yl)) (length (now target)) × (Bool·beq (x .negative) (y .negative) ≡ false) × (top ≡ operandOf x (now xl) .exponent) ⌝ }
-    ensures { λ r. ⌜ (length (now (target .exit)) ≡ length (now (target .entry))) × (r .open ≡ false → (mode p : ℕ) → Room p (length (now (target .entry))) → x .precision ≤ p → y .precision ≤ p → Attempted (modeOf mode) p (operandOf x (now (xl .entry))) (operandOf y (now (yl .entry))) (now (target .exit)) (r .negative) (r .placed) (r .depth) (r .first) (r .second)) ⌝ }
+    ensures { λ r. ⌜ (length (now (target .exit)) ≡ length (now (target .entry))) × (r .open ≡ false → (p : ℕ) → Room p (length (now (target .entry))) → x .precision ≤ p → y .precision ≤ p → Attempted (modeOf mode) p (operandOf x (now (xl .entry))) (operandOf y (now (yl .entry))) (now (target .exit)) (r .negative) (r .placed) (r .depth) (r .first) (r .second)) ⌝ }
 {
     let n = target.len() as u64;
     if bounds::is_low(top, n) {
@@ -103,7 +112,7 @@ pub fn subtract(x: Number, xl: &[u64], y: Number, yl: &[u64], top: u64, target: 
     }
     let d = difference(xl, yl);
     if (d.high == 0) & (d.low == 0) {
-        return nothing();
+        return cancelled(mode, x.negative, y.negative, target);
     }
     let r = twolimbs::normalize(false, d.high, d.low, top);
     write(target, r.high, r.low);

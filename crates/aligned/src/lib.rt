@@ -193,7 +193,7 @@ fn subtract_any<'a>(
     ensures { λ r. ⌜ (length (now (target .exit)) ≡ length (now (target .entry))) × (r .open ≡ false → Attempted (modeOf mode) p (operandOf x (now (xl .entry))) (operandOf y (now (yl .entry))) (now (target .exit)) (r .negative) (r .placed) (r .depth) (r .first) (r .second)) ⌝ }
 {
     if few::are_few(x.precision, y.precision, p, target.len()) {
-        return few::subtract(x, xl, y, yl, top, target);
+        return few::subtract(mode, x, xl, y, yl, top, target);
     }
     subtract(mode, x, xl, y, yl, top, p, target)
 }

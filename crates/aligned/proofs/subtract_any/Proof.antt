@@ -23,7 +23,7 @@ returns c =
     let s = c .before .before .before .before .before .before .before .before .before in
     let few = few-tested (length (s .args .target .now)) (s .args .x .precision) (s .args .y .precision) (s .args .p) (c .before .before .before .before .before .are-few .ensures) (c .before .before .before .before .if1 .taken) in
     let r = c .before .before .subtract in
-    (r .ensures .0, λ e. r .ensures .1 e (s .args .mode) (s .args .p) (s .pre .0) (few .1) (few .2))
+    (r .ensures .0, λ e. r .ensures .1 e (s .args .p) (s .pre .0) (few .1) (few .2))
 
 subtract-requires-2 : tie.Need-subtract-requires-2
 subtract-requires-2 c κs = search needs
