@@ -3,7 +3,7 @@
 use checks::Number;
 use checks::Refusal;
 ghost use mathlib.Core.Path.{_≡_};
-ghost use mathlib.Core.Bool.{true, _&&_};
+ghost use mathlib.Core.Bool.{true, false, _&&_};
 ghost use Prim.Native.Nat.{_<_};
 ghost use lib.ListN.{length};
 ghost use Rattle.checks.specs.Number.{operandOf};
@@ -13,7 +13,7 @@ ghost use Rattle.admission.specs.Sizes.{SizesPass};
 
 // Whether a target passes tests 2 and 3.
 fn target_passes(p: u64, n: usize) -> bool
-    ensures { λ r. ⌜ (r ≡ true → TargetPasses p n) ⌝ }
+    ensures { λ r. ⌜ (r ≡ true → TargetPasses p n) × (r ≡ false → TargetPasses p n → ⊥) ⌝ }
 {
     if !checks::precision_holds(p) {
         return false;
@@ -23,7 +23,7 @@ fn target_passes(p: u64, n: usize) -> bool
 
 // Whether the precisions and lengths of two operands and a target pass tests 2 and 3.
 pub fn sizes_pass(a: u64, m: usize, b: u64, k: usize, p: u64, n: usize) -> bool
-    ensures { λ r. ⌜ (r ≡ true → SizesPass a m b k p n) ⌝ }
+    ensures { λ r. ⌜ (r ≡ true → SizesPass a m b k p n) × (r ≡ false → SizesPass a m b k p n → ⊥) ⌝ }
 {
     if !target_passes(p, n) {
         return false;
@@ -100,24 +100,12 @@ fn values_pass(x: Number, xl: &[u64], y: Number, yl: &[u64]) -> bool
     value_passes(y, yl)
 }
 
-// Whether a mode, two operands and a target pass, where it is told whether their sizes do.
-fn pair_passes(
-    sized: bool,
-    mode: u8,
-    x: Number,
-    xl: &[u64],
-    y: Number,
-    yl: &[u64],
-    p: u64,
-    n: usize,
-) -> bool
-    requires { ⌜ (sized ≡ true → SizesPass (x .precision) (length (now xl)) (y .precision) (length (now yl)) p n) ⌝ }
+// Whether a mode, two operands and a target pass, where their sizes do.
+fn pair_passes(mode: u8, x: Number, xl: &[u64], y: Number, yl: &[u64], p: u64, n: usize) -> bool
+    requires { ⌜ SizesPass (x .precision) (length (now xl)) (y .precision) (length (now yl)) p n ⌝ }
     ensures { λ r. ⌜ (r ≡ true → pairRefusal mode (operandOf x (now (xl .entry))) (operandOf y (now (yl .entry))) p n ≡ accepted) ⌝ }
 {
     if checks::MOST_MODE < mode {
-        return false;
-    }
-    if !sized {
         return false;
     }
     values_pass(x, xl, y, yl)
@@ -133,9 +121,8 @@ fn single_passes(mode: u8, x: Number, xl: &[u64], p: u64, n: usize) -> bool
     one_passes(mode, x, xl)
 }
 
-// Refusals 1 to 5 of two operands under a mode, with a target of p digits in n limbs, where it is told whether their sizes pass.
+// Refusals 1 to 5 of two operands under a mode, with a target of p digits in n limbs, where their sizes pass: 1, 4 and 5 are left.
 pub fn check_pair(
-    sized: bool,
     mode: u8,
     x: Number,
     xl: &[u64],
@@ -144,10 +131,10 @@ pub fn check_pair(
     p: u64,
     n: usize,
 ) -> Refusal
-    requires { ⌜ (sized ≡ true → SizesPass (x .precision) (length (now xl)) (y .precision) (length (now yl)) p n) ⌝ }
+    requires { ⌜ SizesPass (x .precision) (length (now xl)) (y .precision) (length (now yl)) p n ⌝ }
     ensures { λ r. ⌜ r ≡ pairRefusal mode (operandOf x (now (xl .entry))) (operandOf y (now (yl .entry))) p n ⌝ }
 {
-    if pair_passes(sized, mode, x, xl, y, yl, p, n) {
+    if pair_passes(mode, x, xl, y, yl, p, n) {
         return Refusal { rule: 0, place: 0 };
     }
     refusals::refuse_pair(

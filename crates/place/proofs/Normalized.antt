@@ -2,7 +2,7 @@
 use mathlib.Core.Path.{_≡_, refl, sym, ap, _∙_, subst}
 use mathlib.Core.Bool.{Bool, true, false, not, _||_}
 use mathlib.Core.List.{List, [], _∷_}
-use Prim.Native.Nat.{ℕ, _+_, _-_, _*_, _/_, _%_, _^_, _≤_, _<_}
+use Prim.Native.Nat.{ℕ, zero, suc, _+_, _-_, _*_, _/_, _%_, _^_, _≤_, _<_}
 use native.Mathlib.Nat.{le-trans, le-of-eq, div-eq-of-lt, le-of-mul-le-mul-right, lt-of-mul-lt-mul-right}
 use native.Mathlib.Omega.{arith}
 use lib.Bits.{bitOr, or-zero-r}
@@ -54,6 +54,11 @@ pub record ToTop (x z : ℕ) : Type 0 where
 pub brought-top : (x : ℕ) → 0 < x → x < 2 ^ 64 → ToTop x (leadingZeros 64 x)
 brought-top x h lt = let t = zeros-top x h lt in record { few = t .0; first = t .1; fits = t .2 }
 
+-- a limb without a digit at its top has zeros there
+pub some-zeros : (x z : ℕ) → x < 2 ^ 63 → ToTop x z → 0 < z
+some-zeros x zero lt t = let k = t .first in absurd (omega arith)
+some-zeros x (suc z) lt t = omega arith
+
 -- ---- what the moves leave
 
 module _ (b : Bool) (x g : ℕ) (more : Bool) (u : ℕ) (lt : x < 2 ^ 64) (few : g < 2 ^ 64) where
@@ -81,17 +86,14 @@ module _ (b : Bool) (x g : ℕ) (more : Bool) (u : ℕ) (lt : x < 2 ^ 64) (few :
       down : (H B l m c o y q r : ℕ) → B ≡ 2 * H → 2 * l + o ≡ y → x ≡ 2 * c + o → g ≡ 2 * q + r → m + B * c ≡ x * H + q → y * B + g ≡ (l * B + m) * 2 + r
       down H B l m c o y q r e f i k d = let v = ap (λ (n : ℕ). n * B) f in let t = ap (λ (n : ℕ). n * H) i in omega (arith, ap (λ (n : ℕ). c * n) e, ap (λ (n : ℕ). o * n) e)
 
-  pub stays : b ≡ false → (z : ℕ) → ToTop x z → z ≡ 0 → Normalized b x g more u (record { limb = x; guard = g; more = more; unit = u })
-  stays e z t h =
+  pub stays : b ≡ false → 2 ^ 63 ≤ x → Normalized b x g more u (record { limb = x; guard = g; more = more; unit = u })
+  stays e h =
       record {
-        first = there z h (t .first);
+        first = h;
         carried = λ f. differ f e;
         plain = λ f. (ap (λ (c : Bool). whole c (x ∷ []) g) (sym e) ∙ same (whole b (x ∷ []) g) u, refl, omega arith, omega arith);
       }
     where
-      there : (z : ℕ) → z ≡ 0 → 2 ^ 63 ≤ x * 2 ^ z → 2 ^ 63 ≤ x
-      there z e h = let k = rw e at h in omega arith
-
       same : (w u : ℕ) → w ≡ w * 2 ^ (u - u)
       same w u = let z : u - u ≡ 0 = omega arith in rw z (omega arith)
 

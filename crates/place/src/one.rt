@@ -41,8 +41,7 @@ fn normalize(carry: bool, limb: u64, guard: u64, more: bool, unit: u64) -> Norma
             unit: higher,
         };
     }
-    let zeros = u64::leading_zeros(limb) as u64;
-    if zeros == 0 {
+    if FIRST_DIGIT <= limb {
         return Normal {
             limb,
             guard,
@@ -50,6 +49,7 @@ fn normalize(carry: bool, limb: u64, guard: u64, more: bool, unit: u64) -> Norma
             unit,
         };
     }
+    let zeros = u64::leading_zeros(limb) as u64;
     let moved = limb << zeros;
     let entering = guard >> (64 - zeros);
     let left = guard << zeros;

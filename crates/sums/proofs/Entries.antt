@@ -16,6 +16,8 @@ use Rattle.checks.specs.declared.Refusal.{Refusal}
 use Rattle.checks.specs.Number.{isZeroKind, operandOf}
 use Rattle.checks.specs.Check.{accepted, pairRefusal, singleRefusal}
 use Rattle.checks.proofs.Accepted.{accepted-well-formed, accepted-single, pair-unrefused, single-unrefused}
+use Rattle.admission.specs.Sizes.{SizesPass}
+use Rattle.admission.proofs.Sized.{accepted-sized}
 use Rattle.reports.specs.declared.report.Sum.{Sum}
 use Rattle.descent.specs.Ready.{Room}
 use Rattle.reports.specs.Summed.{refusedSum, sumOf, Reported, Summed, Rerounded}
@@ -57,6 +59,11 @@ module _ (mode : ℕ) (x : Number) (xl : List ℕ) (y : Number) (yl : List ℕ) 
         refused = λ n. record { answer = a ∙ ap (λ (c : Refusal). refusedSum c 0 0 0) e; target = refl };
         reported = λ k. absurd (h (ap (λ (c : Refusal). c .rule) (e ∙ k)));
       }
+
+  -- sizes that do not pass
+  pub sizes-refused : {f : Operation} {s : Sum} → (SizesPass (x .precision) (length xl) (y .precision) (length yl) p (length entry) → ⊥) → s ≡ refusedSum r 0 0 0 → Summed f mode x xl y yl p entry entry s
+  unfolding operandOf
+  sizes-refused n a = pair-refused (λ h. n (accepted-sized mode (operandOf x xl) (operandOf y yl) p (length entry) (passed h))) a
 
   pub pair-reported : {f : Operation} {exit : List ℕ} {s : Sum} → r .rule ≡ 0 → Reported f (modeOf mode) p (operandOf x xl) (operandOf y yl) exit s → Summed f mode x xl y yl p entry exit s
   pair-reported h d = record { refused = λ n. absurd (n (passed h)); reported = λ k. d }

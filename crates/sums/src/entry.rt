@@ -51,7 +51,6 @@ fn is_narrow(p: u64, x: Number, y: Number) -> bool
 // Any other way has numbers and slices of its own, so that these need not stand in memory; and the sizes are
 // tested where the call arrives, so that the words of a slice are not copied as pairs on the way.
 fn add_sized<'a>(
-    sized: bool,
     mode: u8,
     x: Number,
     xl: &'a [u64],
@@ -60,10 +59,10 @@ fn add_sized<'a>(
     p: u64,
     target: &mut [u64],
 ) -> Sum
-    requires { ⌜ (sized ≡ true → SizesPass (x .precision) (length (now xl)) (y .precision) (length (now yl)) p (length (now target))) ⌝ }
+    requires { ⌜ SizesPass (x .precision) (length (now xl)) (y .precision) (length (now yl)) p (length (now target)) ⌝ }
     ensures { λ r. ⌜ Summed plus mode x (now (xl .entry)) y (now (yl .entry)) p (now (target .entry)) (now (target .exit)) r ⌝ }
 {
-    let refusal = admission::check_pair(sized, mode, x, xl, y, yl, p, target.len());
+    let refusal = admission::check_pair(mode, x, xl, y, yl, p, target.len());
     if refusal.rule != 0 {
         return reports::refused(refusal, 0, 0, 0);
     }
@@ -99,6 +98,14 @@ fn add_sized<'a>(
     )
 }
 
+// Where the sizes do not pass: the first test that fails, by the tests in their order. Of the target its length is enough.
+fn refuse_sizes(mode: u8, x: Number, xl: &[u64], y: Number, yl: &[u64], p: u64, n: usize) -> Sum
+    requires { ⌜ (SizesPass (x .precision) (length (now xl)) (y .precision) (length (now yl)) p n → ⊥) ⌝ }
+    ensures { λ r. ⌜ ((target : List ℕ) → length target ≡ n → Summed plus mode x (now (xl .entry)) y (now (yl .entry)) p target target r) ⌝ }
+{
+    reports::refused(refusals::refuse_pair(mode, x, xl, y, yl, p, n), 0, 0, 0)
+}
+
 // x + y, rounded to p digits.
 pub fn add<'a>(
     mode: u8,
@@ -112,8 +119,10 @@ pub fn add<'a>(
     ensures { λ r. ⌜ Summed plus mode x (now (xl .entry)) y (now (yl .entry)) p (now (target .entry)) (now (target .exit)) r ⌝ }
 {
     let n = target.len();
-    let sized = admission::sizes_pass(x.precision, xl.len(), y.precision, yl.len(), p, n);
-    add_sized(sized, mode, x, xl, y, yl, p, target)
+    if !admission::sizes_pass(x.precision, xl.len(), y.precision, yl.len(), p, n) {
+        return refuse_sizes(mode, x, xl, y, yl, p, n);
+    }
+    add_sized(mode, x, xl, y, yl, p, target)
 }
 
 // x - y, rounded to p digits: the sum with the second sign turned.
@@ -130,8 +139,10 @@ pub fn subtract<'a>(
 {
     let turned = checks::turn_sign(y);
     let n = target.len();
-    let sized = admission::sizes_pass(x.precision, xl.len(), turned.precision, yl.len(), p, n);
-    add_sized(sized, mode, x, xl, turned, yl, p, target)
+    if !admission::sizes_pass(x.precision, xl.len(), turned.precision, yl.len(), p, n) {
+        return refuse_sizes(mode, x, xl, turned, yl, p, n);
+    }
+    add_sized(mode, x, xl, turned, yl, p, target)
 }
 
 // x alone, rounded to p digits, at once where the first column fixes it: reports as the addition of a zero.

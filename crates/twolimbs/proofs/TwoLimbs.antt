@@ -13,7 +13,7 @@ use Rattle.limb.specs.Carry.{bit}
 use Rattle.kept.specs.Walk.{whole}
 use Rattle.kept.proofs.OneLimb.{one-value}
 use Rattle.kept.proofs.Reaching.{headed-true, headed-false}
-use Rattle.place.proofs.Normalized.{ToTop, brought-top, lowered, stays, raised}
+use Rattle.place.proofs.Normalized.{ToTop, brought-top, lowered, raised}
 use Rattle.twolimbs.specs.Two.{headIn, Brought}
 use Rattle.twolimbs.specs.declared.Normal.{Normal}
 
@@ -123,7 +123,7 @@ module _ (high low top : ℕ) (some : 0 < high) (lt : high < 2 ^ 64) (few : low 
           let up : bitOr (high * 2 ^ z % 2 ^ 64) entering ≡ high = rw h (let i : low / 2 / 2 ^ 63 ≡ 0 = omega arith in let j : high * 2 ^ 0 % 2 ^ 64 ≡ high = omega arith in rw (i, j) (or-zero-r high)) in
           let down : low * 2 ^ z % 2 ^ 64 ≡ low = rw h (omega arith) in
           record {
-            first = rw up (stays false high low false top lt few refl z to-top h .first);
+            first = rw up (let k = rw h at (to-top .first) in omega arith);
             worth = rw (up, down, h) (ap (λ (m : ℕ). headIn (2 ^ 64) false high low * 2 ^ m) (let i : top - 0 ≡ top = omega arith in i));
           }
 

@@ -12,7 +12,7 @@ returns : tie.Need-returns
 returns c = λ h. absurd (false≢true h)
 
 value-passes-requires : tie.Need-value-passes-requires
-value-passes-requires c κs = c .before .target-passes .ensures (not-false _ (c .if1 .left))
+value-passes-requires c κs = c .before .target-passes .ensures .0 (not-false _ (c .if1 .left))
 
 returns-2 : tie.Need-returns-2
 returns-2 c = c .value-passes .ensures

@@ -16,7 +16,7 @@ one-passes-requires : tie.Need-one-passes-requires
 one-passes-requires c κs = search needs
 
 returns-2 : tie.Need-returns-2
-returns-2 c = λ h. let b = c .one-passes .ensures h in single-passes _ _ _ _ (b .0) (b .1) (c .before .before .target-passes .ensures (not-false _ (c .before .if1 .left)))
+returns-2 c = λ h. let b = c .one-passes .ensures h in single-passes _ _ _ _ (b .0) (b .1) (c .before .before .target-passes .ensures .0 (not-false _ (c .before .if1 .left)))
 
 pub single-passes-spec : {M : Type 1} → statement M
 single-passes-spec =
