@@ -21,7 +21,7 @@ use crate::cancelled;
 use checks::Number;
 use place::Placed;
 use twolimbs::Head;
-use wide::Wide;
+use wide::Attempt;
 use wide::nothing;
 
 // A run of one or two limbs, at the top of two.
@@ -102,7 +102,7 @@ pub fn subtract(
     yl: &[u64],
     top: u64,
     target: &mut [u64],
-) -> Wide
+) -> Attempt
     requires { ⌜ Few (length (now target)) × Aligned (operandOf x (now xl)) (operandOf y (now yl)) (length (now target)) × (Bool·beq (x .negative) (y .negative) ≡ false) × (top ≡ operandOf x (now xl) .exponent) ⌝ }
     ensures { λ r. ⌜ (length (now (target .exit)) ≡ length (now (target .entry))) × (r .open ≡ false → (p : ℕ) → Room p (length (now (target .entry))) → x .precision ≤ p → y .precision ≤ p → Attempted (modeOf mode) p (operandOf x (now (xl .entry))) (operandOf y (now (yl .entry))) (now (target .exit)) (r .negative) (r .placed) (r .depth) (r .first) (r .second)) ⌝ }
 {
@@ -121,7 +121,7 @@ pub fn subtract(
         exponent: r.exponent,
         ternary: 0,
     };
-    Wide {
+    Attempt {
         open: false,
         negative: x.negative != d.swapped,
         placed: placed,

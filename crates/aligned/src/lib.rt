@@ -24,7 +24,7 @@ mod few; // few.rt: one or two limbs, by value
 use checks::Number;
 use choice::either_run;
 use place::Placed;
-use wide::Wide;
+use wide::Attempt;
 use wide::nothing;
 
 // How many limbs at the top of two runs of one length are alike.
@@ -81,7 +81,7 @@ fn round_whole(
     top: u64,
     p: u64,
     target: &mut [u64],
-) -> Wide
+) -> Attempt
     requires { ⌜ (64 * (length (now target) + skipped + 1) ≤ top) × (runRule p carry (now target) (top - 64 * (length (now target) + skipped + 1)) ≡ 0) ⌝ }
     ensures { λ r. ⌜ (length (now (target .exit)) ≡ length (now (target .entry))) × (r .second ≡ r .first) × ((x y : Operand) → Standing p x y (now (target .entry)) carry skipped top → negative ≡ x .negative → Attempted (modeOf mode) p x y (now (target .exit)) (r .negative) (r .placed) (r .depth) (r .first) (r .second)) ⌝ }
 {
@@ -96,7 +96,7 @@ fn round_whole(
         p,
         mode,
     );
-    Wide {
+    Attempt {
         open: false,
         negative: negative,
         placed: placed,
@@ -107,14 +107,14 @@ fn round_whole(
 }
 
 // The same for a difference of which nothing lies below the digits kept, whatever the mode.
-fn settle_whole(negative: bool, skipped: u64, top: u64, p: u64, target: &mut [u64]) -> Wide
+fn settle_whole(negative: bool, skipped: u64, top: u64, p: u64, target: &mut [u64]) -> Attempt
     requires { ⌜ (64 * (length (now target) + skipped + 1) ≤ top) × (runRule p false (now target) (top - 64 * (length (now target) + skipped + 1)) ≡ 0) × (valueOf (now target) % 2 ^ (64 * length (now target) - p) ≡ 0) ⌝ }
     ensures { λ r. ⌜ (length (now (target .exit)) ≡ length (now (target .entry))) × (r .second ≡ r .first) × ((mode : ℕ) (x y : Operand) → Standing p x y (now (target .entry)) false skipped top → negative ≡ x .negative → Attempted (modeOf mode) p x y (now (target .exit)) (r .negative) (r .placed) (r .depth) (r .first) (r .second)) ⌝ }
 {
     let n = target.len() as u64;
     let unit = top - 64 * (n + skipped + 1);
     let placed = place::round_exact(target, unit, p);
-    Wide {
+    Attempt {
         open: false,
         negative: negative,
         placed: placed,
@@ -125,7 +125,7 @@ fn settle_whole(negative: bool, skipped: u64, top: u64, p: u64, target: &mut [u6
 }
 
 // All limbs are alike: a zero, with no limb left unread.
-fn cancelled(mode: u8, a: bool, b: bool, target: &mut [u64]) -> Wide
+fn cancelled(mode: u8, a: bool, b: bool, target: &mut [u64]) -> Attempt
     ensures { λ r. ⌜ (length (now (target .exit)) ≡ length (now (target .entry))) × ((p : ℕ) (x y : Operand) → Room p (length (now (target .entry))) → Cancelling x y (length (now (target .entry))) → a ≡ x .negative → b ≡ y .negative → Attempted (modeOf mode) p x y (now (target .exit)) (r .negative) (r .placed) (r .depth) (r .first) (r .second)) ⌝ }
 {
     let n = target.len() as u64;
@@ -135,7 +135,7 @@ fn cancelled(mode: u8, a: bool, b: bool, target: &mut [u64]) -> Wide
         exponent: 0,
         ternary: 0,
     };
-    Wide {
+    Attempt {
         open: false,
         negative: reports::zero_sign(mode, a, b),
         placed: placed,
@@ -155,7 +155,7 @@ fn subtract<'a>(
     top: u64,
     p: u64,
     target: &mut [u64],
-) -> Wide
+) -> Attempt
     requires { ⌜ Room p (length (now target)) × Aligned (operandOf x (now xl)) (operandOf y (now yl)) (length (now target)) × (Bool·beq (x .negative) (y .negative) ≡ false) × (top ≡ operandOf x (now xl) .exponent) ⌝ }
     ensures { λ r. ⌜ (length (now (target .exit)) ≡ length (now (target .entry))) × (r .open ≡ false → Attempted (modeOf mode) p (operandOf x (now (xl .entry))) (operandOf y (now (yl .entry))) (now (target .exit)) (r .negative) (r .placed) (r .depth) (r .first) (r .second)) ⌝ }
 {
@@ -188,7 +188,7 @@ fn subtract_any<'a>(
     top: u64,
     p: u64,
     target: &mut [u64],
-) -> Wide
+) -> Attempt
     requires { ⌜ Room p (length (now target)) × Aligned (operandOf x (now xl)) (operandOf y (now yl)) (length (now target)) × (Bool·beq (x .negative) (y .negative) ≡ false) × (top ≡ operandOf x (now xl) .exponent) ⌝ }
     ensures { λ r. ⌜ (length (now (target .exit)) ≡ length (now (target .entry))) × (r .open ≡ false → Attempted (modeOf mode) p (operandOf x (now (xl .entry))) (operandOf y (now (yl .entry))) (now (target .exit)) (r .negative) (r .placed) (r .depth) (r .first) (r .second)) ⌝ }
 {
@@ -207,7 +207,7 @@ pub fn attempt<'a>(
     yl: &'a [u64],
     p: u64,
     target: &mut [u64],
-) -> Wide
+) -> Attempt
     requires { ⌜ WellFormed (operandOf x (now xl)) × (operandOf x (now xl) .isZero ≡ false) × WellFormed (operandOf y (now yl)) × (operandOf y (now yl) .isZero ≡ false) × (x .exponent ≡ y .exponent) × (length (now xl) ≡ length (now target)) × (length (now yl) ≡ length (now target)) × Room p (length (now target)) ⌝ }
     ensures { λ r. ⌜ (length (now (target .exit)) ≡ length (now (target .entry))) × (r .open ≡ false → Attempted (modeOf mode) p (operandOf x (now (xl .entry))) (operandOf y (now (yl .entry))) (now (target .exit)) (r .negative) (r .placed) (r .depth) (r .first) (r .second)) ⌝ }
 {

@@ -23,7 +23,7 @@ use location::rounds_up;
 use parts::copy;
 use place::Placed;
 use settle::Pair;
-use wide::Wide;
+use wide::Attempt;
 use wide::nothing;
 
 // Fills the target with the first operand's limbs, or with one less. Returns the guard below them.
@@ -117,7 +117,7 @@ pub fn attempt(
     first: &[u64],
     second: &[u64],
     target: &mut [u64],
-) -> Wide
+) -> Attempt
     requires { ⌜ Room p (length (now target)) × Offered pair (now first) (now second) × (length (now first) ≡ length (now target)) × (64 * length (now target) ≤ pair .gap) × (p + 1 < pair .gap) ⌝ }
     ensures { λ r. ⌜ (length (now (target .exit)) ≡ length (now (target .entry))) × (r .open ≡ false → (z w : Operand) → Holding z w pair (now (first .entry)) (now (second .entry)) → negative ≡ z .negative → Attempted (modeOf mode) p z w (now (target .exit)) (r .negative) (r .placed) (r .depth) (cond swapped (r .second) (r .first)) (cond swapped (r .first) (r .second))) ⌝ }
 {
@@ -126,7 +126,7 @@ pub fn attempt(
         return nothing();
     }
     let placed = round(mode, negative, p, pair, first, target);
-    Wide {
+    Attempt {
         open: false,
         negative: negative,
         placed: placed,

@@ -19,7 +19,7 @@ mod filling; // filling.rt: one walk fills the target
 
 use filling::fill;
 use settle::Pair;
-use wide::Wide;
+use wide::Attempt;
 use wide::nothing;
 
 // Adds two such numbers, the second with its own sign, where the columns that fill the target, or one more, fix the answer.
@@ -31,7 +31,7 @@ pub fn attempt(
     first: &[u64],
     second: &[u64],
     target: &mut [u64],
-) -> Wide
+) -> Attempt
     requires { ⌜ Room p (length (now target)) × Offered pair (now first) (now second) × (length (now first) ≡ length (now target)) × (length (now second) ≡ length (now target)) × (0 < pair .gap) × (pair .gap < 64) ⌝ }
     ensures { λ r. ⌜ (length (now (target .exit)) ≡ length (now (target .entry))) × (r .open ≡ false → (z w : Operand) → Holding z w pair (now (first .entry)) (now (second .entry)) → negative ≡ z .negative → Attempted (modeOf mode) p z w (now (target .exit)) (r .negative) (r .placed) (r .depth) (r .first) (r .second)) ⌝ }
 {
@@ -50,7 +50,7 @@ pub fn attempt(
         p,
         mode,
     );
-    Wide {
+    Attempt {
         open: false,
         negative: negative,
         placed: placed,

@@ -6,12 +6,12 @@ use mathlib.Core.List.{List, [], _∷_}
 use Rattle.numbers.specs.Operand.{Operand}
 use Rattle.rounding.specs.Mode.{Mode}
 use Rattle.settle.specs.declared.rows.Pair.{Pair}
-use Rattle.wide.specs.declared.told.Wide.{Wide}
+use Rattle.wide.specs.declared.told.Attempt.{Attempt}
 use Rattle.wide.specs.Filling.{Holding}
 use Rattle.wide.specs.Attempted.{Attempted}
 
 -- the sum of all operands that are so held, the counts in the order of the caller
-abbrev pub Tells : Mode → ℕ → Pair → ℕ → ℕ → Bool → Bool → List ℕ → Wide → Type 0
+abbrev pub Tells : Mode → ℕ → Pair → ℕ → ℕ → Bool → Bool → List ℕ → Attempt → Type 0
 Tells o p pair u v negative swapped exit r =
     (z w : Operand) → Holding z w pair (u ∷ []) (v ∷ []) → negative ≡ z .negative
     → Attempted o p z w exit (r .negative) (r .placed) (r .depth) (cond swapped (r .second) (r .first)) (cond swapped (r .first) (r .second))

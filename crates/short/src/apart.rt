@@ -10,8 +10,8 @@ ghost use Rattle.wide.specs.Filling.{Offered, Fills};
 ghost use Rattle.short.specs.Short.{Tells};
 use crate::close::write;
 use settle::Pair;
+use wide::Attempt;
 use wide::Filled;
-use wide::Wide;
 
 // Fills the target with the larger, and zeros; or with one less.
 fn fill(p: u64, pair: Pair, u: u64, target: &mut [u64]) -> Filled
@@ -54,7 +54,7 @@ pub fn add_apart(
     swapped: bool,
     u: u64,
     target: &mut [u64],
-) -> Wide
+) -> Attempt
     requires { ⌜ Room p (length (now target)) × (2 < length (now target)) × ((v : ℕ) × Offered pair (u ∷ []) (v ∷ [])) × (p + 1 < pair .gap) ⌝ }
     ensures { λ r. ⌜ (length (now (target .exit)) ≡ length (now (target .entry))) × (r .open ≡ false → (v : ℕ) → Tells (modeOf mode) p pair u v negative swapped (now (target .exit)) r) ⌝ }
 {
@@ -69,7 +69,7 @@ pub fn add_apart(
         p,
         mode,
     );
-    Wide {
+    Attempt {
         open: false,
         negative: negative,
         placed: placed,

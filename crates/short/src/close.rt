@@ -19,7 +19,7 @@ use twolimbs::columns;
 use twolimbs::difference;
 use twolimbs::normalize;
 use twolimbs::sum;
-use wide::Wide;
+use wide::Attempt;
 
 // Two limbs at the top of the target, and zeros below.
 pub fn write(target: &mut [u64], high: u64, low: u64)
@@ -58,7 +58,7 @@ fn combine(same: bool, u: u64, v: u64, gap: u64) -> Head
 }
 
 // Adds two limbs in order, u the larger.
-pub fn add_close(negative: bool, p: u64, pair: Pair, u: u64, v: u64, target: &mut [u64]) -> Wide
+pub fn add_close(negative: bool, p: u64, pair: Pair, u: u64, v: u64, target: &mut [u64]) -> Attempt
     requires { ⌜ Room p (length (now target)) × (2 < length (now target)) × Offered pair (u ∷ []) (v ∷ []) × (pair .gap < 64) × (ltb mostExponent (pair .top + 2) ≡ false) × (ltb (pair .top + 1) (leastExponent + 64 * length (now target)) ≡ false) ⌝ }
     ensures { λ r. ⌜ (length (now (target .exit)) ≡ length (now (target .entry))) × (r .open ≡ false → (o : Mode) (swapped : Bool) → Tells o p pair u v negative swapped (now (target .exit)) r) ⌝ }
 {
@@ -70,7 +70,7 @@ pub fn add_close(negative: bool, p: u64, pair: Pair, u: u64, v: u64, target: &mu
         exponent: n.exponent,
         ternary: 0,
     };
-    Wide {
+    Attempt {
         open: false,
         negative: negative,
         placed: placed,

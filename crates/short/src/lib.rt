@@ -17,7 +17,7 @@ mod apart; // apart.rt: more than the answer apart
 use apart::add_apart;
 use close::add_close;
 use settle::Pair;
-use wide::Wide;
+use wide::Attempt;
 use wide::nothing;
 
 // Adds two limbs in order, u the larger.
@@ -30,7 +30,7 @@ fn add_in_order(
     u: u64,
     v: u64,
     target: &mut [u64],
-) -> Wide
+) -> Attempt
     requires { ⌜ Room p (length (now target)) × (2 < length (now target)) × Offered pair (u ∷ []) (v ∷ []) ⌝ }
     ensures { λ r. ⌜ (length (now (target .exit)) ≡ length (now (target .entry))) × (r .open ≡ false → Tells (modeOf mode) p pair u v negative swapped (now (target .exit)) r) ⌝ }
 {
@@ -56,7 +56,7 @@ pub fn attempt(
     first: &[u64],
     second: &[u64],
     target: &mut [u64],
-) -> Wide
+) -> Attempt
     requires { ⌜ Room p (length (now target)) × Offered pair (now first) (now second) × (length (now first) ≡ 1) × (length (now second) ≡ 1) × (2 < length (now target)) ⌝ }
     ensures { λ r. ⌜ (length (now (target .exit)) ≡ length (now (target .entry))) × (r .open ≡ false → (z w : Operand) → Holding z w pair (now (first .entry)) (now (second .entry)) → negative ≡ z .negative → Attempted (modeOf mode) p z w (now (target .exit)) (r .negative) (r .placed) (r .depth) (cond swapped (r .second) (r .first)) (cond swapped (r .first) (r .second))) ⌝ }
 {

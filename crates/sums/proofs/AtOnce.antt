@@ -23,7 +23,7 @@ use Rattle.reports.specs.Signed.{Signed}
 use Rattle.ending.proofs.RegularEnd.{deep-enough}
 use Rattle.narrow.specs.declared.looking.Sight.{Sight}
 use Rattle.narrow.specs.Looked.{Looked}
-use Rattle.wide.specs.declared.told.Wide.{Wide}
+use Rattle.wide.specs.declared.told.Attempt.{Attempt}
 use Rattle.wide.specs.Attempted.{Attempted}
 use Rattle.reports.specs.declared.report.Sum.{Sum}
 use Rattle.reports.specs.Summed.{sumOf, Reported}
@@ -60,7 +60,7 @@ looked-reported o p x y sight entry {s} room h l told =
 
 -- ---- what is read at once into the target
 
-pub attempted-reported : (o : Mode) (p : ℕ) (x y : Operand) (w : Wide) (exit : List ℕ) {s : Sum} → Attempted o p x y exit (w .negative) (w .placed) (w .depth) (w .first) (w .second)
+pub attempted-reported : (o : Mode) (p : ℕ) (x y : Operand) (w : Attempt) (exit : List ℕ) {s : Sum} → Attempted o p x y exit (w .negative) (w .placed) (w .depth) (w .first) (w .second)
     → ((a : Answer) → Signed (w .negative) a → w .placed ≡ placedOf a → s ≡ sumOf a p (w .depth) (w .first) (w .second))
     → Reported plus o p x y exit s
 unfolding result

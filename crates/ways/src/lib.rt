@@ -16,7 +16,7 @@ use choice::either_sign;
 use choice::is_level;
 use choice::is_second_larger;
 use settle::Pair;
-use wide::Wide;
+use wide::Attempt;
 use wide::nothing;
 
 // Whether two numbers have one exponent, and each as many limbs as the target.
@@ -49,11 +49,11 @@ fn is_short(m: usize, k: usize, n: usize) -> bool
 }
 
 // The same with the counts exchanged, where so said.
-fn exchanged_if(swapped: bool, r: Wide) -> Wide
+fn exchanged_if(swapped: bool, r: Attempt) -> Attempt
     ensures { λ s. ⌜ (s .open ≡ r .open) × (s .negative ≡ r .negative) × (s .placed ≡ r .placed) × (s .depth ≡ r .depth) × (s .first ≡ cond swapped (r .second) (r .first)) × (s .second ≡ cond swapped (r .first) (r .second)) ⌝ }
 {
     let placed = r.placed;
-    Wide {
+    Attempt {
         open: r.open,
         negative: r.negative,
         placed: placed,
@@ -73,7 +73,7 @@ fn round_filled(
     first: &[u64],
     second: &[u64],
     target: &mut [u64],
-) -> Wide
+) -> Attempt
     requires { ⌜ Room p (length (now target)) × Offered pair (now first) (now second) ⌝ }
     ensures { λ r. ⌜ (length (now (target .exit)) ≡ length (now (target .entry))) × (r .open ≡ false → (z w : Operand) → Holding z w pair (now (first .entry)) (now (second .entry)) → negative ≡ z .negative → Attempted (modeOf mode) p z w (now (target .exit)) (r .negative) (r .placed) (r .depth) (cond swapped (r .second) (r .first)) (cond swapped (r .first) (r .second))) ⌝ }
 {
@@ -94,7 +94,7 @@ fn round_filled(
     );
     let upper = reports::used(k, 0, first.len());
     let lower = reports::used(k, pair.gap, second.len());
-    Wide {
+    Attempt {
         open: false,
         negative: negative,
         placed: placed,
@@ -114,7 +114,7 @@ fn read_in_order(
     first: &[u64],
     second: &[u64],
     target: &mut [u64],
-) -> Wide
+) -> Attempt
     requires { ⌜ Room p (length (now target)) × Offered pair (now first) (now second) ⌝ }
     ensures { λ r. ⌜ (length (now (target .exit)) ≡ length (now (target .entry))) × (r .open ≡ false → (z w : Operand) → Holding z w pair (now (first .entry)) (now (second .entry)) → negative ≡ z .negative → Attempted (modeOf mode) p z w (now (target .exit)) (r .negative) (r .placed) (r .depth) (cond swapped (r .second) (r .first)) (cond swapped (r .first) (r .second))) ⌝ }
 {
@@ -143,7 +143,7 @@ fn read_as_said<'a>(
     xl: &'a [u64],
     yl: &'a [u64],
     target: &mut [u64],
-) -> Wide
+) -> Attempt
     requires { ⌜ Room p (length (now target)) × Offered pair (cond swapped (now yl) (now xl)) (cond swapped (now xl) (now yl)) ⌝ }
     ensures { λ r. ⌜ (length (now (target .exit)) ≡ length (now (target .entry))) × (r .open ≡ false → (z w : Operand) → Holding z w pair (cond swapped (now (yl .entry)) (now (xl .entry))) (cond swapped (now (xl .entry)) (now (yl .entry))) → negative ≡ z .negative → Attempted (modeOf mode) p z w (now (target .exit)) (r .negative) (r .placed) (r .depth) (cond swapped (r .second) (r .first)) (cond swapped (r .first) (r .second))) ⌝ }
 {
@@ -161,7 +161,7 @@ fn add_regular<'a>(
     yl: &'a [u64],
     p: u64,
     target: &mut [u64],
-) -> Wide
+) -> Attempt
     requires { ⌜ WellFormed (operandOf x (now xl)) × (operandOf x (now xl) .isZero ≡ false) × WellFormed (operandOf y (now yl)) × (operandOf y (now yl) .isZero ≡ false) × Room p (length (now target)) ⌝ }
     ensures { λ r. ⌜ (length (now (target .exit)) ≡ length (now (target .entry))) × (r .open ≡ false → Attempted (modeOf mode) p (operandOf x (now (xl .entry))) (operandOf y (now (yl .entry))) (now (target .exit)) (r .negative) (r .placed) (r .depth) (r .first) (r .second)) ⌝ }
 {
@@ -195,7 +195,7 @@ pub fn attempt<'a>(
     yl: &'a [u64],
     p: u64,
     target: &mut [u64],
-) -> Wide
+) -> Attempt
     requires { ⌜ WellFormed (operandOf x (now xl)) × WellFormed (operandOf y (now yl)) × Room p (length (now target)) ⌝ }
     ensures { λ r. ⌜ (length (now (target .exit)) ≡ length (now (target .entry))) × (r .open ≡ false → Attempted (modeOf mode) p (operandOf x (now (xl .entry))) (operandOf y (now (yl .entry))) (now (target .exit)) (r .negative) (r .placed) (r .depth) (r .first) (r .second)) ⌝ }
 {

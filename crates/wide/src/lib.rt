@@ -12,5 +12,5 @@ pub use filling::fill;
 pub use filling::needs_guard;
 pub use filling::none;
 pub use guarded::glance_guarded;
-pub use told::Wide;
+pub use told::Attempt;
 pub use told::nothing;

@@ -4,7 +4,7 @@ ghost use mathlib.Core.Bool.{true};
 use place::Placed;
 
 // The answer and its sign, the depth, and the limbs used of each operand. Or it is left open.
-pub struct Wide {
+pub struct Attempt {
     pub open: bool,
     pub negative: bool,
     pub placed: Placed,
@@ -14,7 +14,7 @@ pub struct Wide {
 }
 
 // Left open.
-pub fn nothing() -> Wide
+pub fn nothing() -> Attempt
     ensures { λ r. ⌜ r .open ≡ true ⌝ }
 {
     let placed = Placed {
@@ -22,7 +22,7 @@ pub fn nothing() -> Wide
         exponent: 0,
         ternary: 0,
     };
-    Wide {
+    Attempt {
         open: true,
         negative: false,
         placed: placed,
