@@ -192,7 +192,7 @@ module _ (p : ℕ) (pair : Pair) (first second target : List ℕ) (guard : ℕ) 
     open-before : decideAt o p x y n ≡ false
     open-before =
         short-open o p some-p x y n d some (leads-held x y pair first second h n some) (h .regular) (omega (arith, pair-top x y, above n (omega arith)))
-        (rw (h .pair-is) at (g .high)) (rw (h .pair-is) at (g .low)) (rw (h .pair-is) at (g .spent .reached)) (rw (h .pair-is) at (g .spent .unread))
+        (rw (h .pair-is) at (g .inland)) (rw (h .pair-is) at (g .spent .reached)) (rw (h .pair-is) at (g .spent .unread))
         (omega (arith, size-le (readSum x y n) (64 * n) small, g .spent .full))
 
     here : (row : Row) → rowOf pair k ≡ row → rowOf (pairOf x y) k ≡ row
@@ -264,7 +264,7 @@ module _ (p : ℕ) (pair : Pair) (first second before : List ℕ) (sight : Sight
         → ((pair .same ≡ false → readTo m (pair .gap) second ≤ readTo m 0 first) → Runs (cond (pair .same) (readTo m 0 first + readTo m (pair .gap) second) (readTo m 0 first - readTo m (pair .gap) second)) after r)
         → Guards p pair first second after (r .guard)
     guards spent low run =
-        record { spent = rw size spent; high = prompt .high; low = rw size low; value = λ x y h. rw size (read-held x y pair first second h m ∙ run (λ e. not-less x y h e) ∙ flat) }
+        record { spent = rw size spent; inland = rw size (record { high = prompt .inland .high; low = low }); value = λ x y h. rw size (read-held x y pair first second h m ∙ run (λ e. not-less x y h e) ∙ flat) }
       where
         under : {a b : ℕ} → a < b → a ≤ b
         under h = omega arith
