@@ -6,13 +6,13 @@ use Prim.Native.Nat.{ℕ, suc, _+_, _-_, _*_, _/_, _^_, _≤_, _<_}
 use native.Mathlib.Decide.{decLe}
 use native.Mathlib.Nat.{pow-succ'}
 use native.Mathlib.Omega.{arith}
-use borrow.Author.Tests.{le-leb, lt-leb, ltb-false, le-ltb}
-use lib.Dec.{ltb, leb}
+use borrow.Author.Tests.{le-leb, lt-leb}
+use lib.Dec.{leb}
 use lib.ListN.{length, replicate, length-replicate}
 use lib.Ieee.{size}
 use lib.Ieee.Digits.{size-le}
 use Rattle.limb.specs.Carry.{bit}
-use Rattle.numbers.specs.Limits.{mostPrecision, leastExponent, limbsFor}
+use Rattle.numbers.specs.Limits.{mostPrecision, limbsFor}
 use Rattle.numbers.specs.Operand.{Operand}
 use Rattle.numbers.proofs.Digits.{precision-two}
 use Rattle.numbers.proofs.Limits.{limbs-hold, limbs-fewest}
@@ -42,6 +42,7 @@ use Rattle.descent.specs.Course.{Course}
 use Rattle.descent.proofs.GoingOn.{sum-below, difference-is}
 use Rattle.descent.proofs.GoingDown.{room-some, open-before}
 use Rattle.descent.proofs.JudgingRange.{digits-some}
+use Rattle.descent.proofs.AtOnce.{inland-sooner}
 use Rattle.ending.proofs.RegularEnd.{deep-enough}
 use Rattle.ending.specs.Finishing.{Left}
 use Rattle.wide.specs.Attempted.{Attempted}
@@ -156,11 +157,8 @@ module _ (o : Mode) (p : ℕ) (x y : Operand) (n z top : ℕ) (s : Covered p x y
             less : (i j m : ℕ) → i < m → i - j < m
             less i j m h = omega arith
 
-    calm : q .same ≡ false → ltb (q .top + 1) (leastExponent + 64 * k) ≡ false
-    calm e = le-ltb (q .top + 1) (leastExponent + 64 * k) (omega (arith, pair-top x y, s .top-is, ltb-false (top + 1) (leastExponent + 64 * n) (s .low e)))
-
     parted-open : z < k → decideAt o p x y k ≡ false
-    parted-open h = short-open o p P x y k d K (leads-after k h) (a .second-regular) above (λ e. rw (pair-top x y, ← s .top-is) (s .high e)) calm (omega (arith, no-gap x y n a)) unread short
+    parted-open h = short-open o p P x y k d K (leads-after k h) (a .second-regular) above (inland-sooner q n k (omega arith) (s .inland)) (omega (arith, no-gap x y n a)) unread short
 
   pub first : 1 < n → decideAt o p x y (n - 1) ≡ false
   first more = elim (decLe (n - 1) z) [

@@ -29,6 +29,7 @@ use Rattle.twolimbs.specs.Two.{headIn, Brought}
 use Rattle.twolimbs.specs.declared.Normal.{Normal}
 use Rattle.twolimbs.proofs.Exact.{size-some, exact-rounded, written-longer, brought-written}
 use Rattle.bridge.specs.Verdict.{pairOf, Ordered, readSum}
+use Rattle.bridge.proofs.Told.{pair-top}
 use Rattle.bridge.proofs.Answers.{exact-sum, sum-pos}
 use Rattle.bridge.proofs.Covered.{columns-above}
 use Rattle.descent.proofs.JudgingRange.{digits-some}
@@ -94,7 +95,7 @@ module _ (o : Mode) (p : ℕ) (x y : Operand) (n z top : ℕ) (c : Covered p x y
   with-zeros = written-longer p 128 s D (digits p D) (size D + s) P (omega (arith, held)) (written p s D P D-some rep)
 
   least : leastExponent ≤ size D + s
-  least = omega (arith, size-some D D-some, above, c .top-is, ltb-false (top + 1) (leastExponent + 64 * n) (c .low apart))
+  least = omega (arith, size-some D D-some, above, pair-top x y, ltb-false (pairOf x y .top + 1) (leastExponent + 64 * n) (c .inland .low apart))
 
   most : size D + s ≤ mostExponent
   most = omega (arith, size-le D (64 * n) D-lt, above, a .first .regular (a .first-regular) .most)

@@ -20,6 +20,7 @@ use Rattle.fused.specs.Fused.{DifferenceOf}
 use Rattle.numbers.specs.Limits.{leastExponent, mostExponent, limbsFor, mostPrecision}
 use Rattle.numbers.specs.Operand.{Operand, WellFormed}
 use Rattle.rounding.proofs.Order.{le-or-lt}
+use Rattle.bridge.proofs.Told.{pair-top}
 use Rattle.descent.specs.Ready.{Room}
 use Rattle.descent.proofs.GoingDown.{room-some}
 use Rattle.ending.proofs.Finishing.{cleared}
@@ -61,7 +62,7 @@ module _ (p : ℕ) (x y : Operand) (t : List ℕ) (carry : Bool) (top : ℕ) (ro
   standing-sum =
       let same = same-told x y (length t) a like in
       record {
-        covered = record { room = room; aligned = a; course = course-sum x y (length t) a same; within = room-some p (length t) room; top-is = top-is; high = λ e. high; low = λ e. absurd (true≢false (sym same ∙ e)) };
+        covered = record { room = room; aligned = a; course = course-sum x y (length t) a same; within = room-some p (length t) room; top-is = top-is; inland = record { high = λ e. rw (pair-top x y, ← top-is) high; low = λ e. absurd (true≢false (sym same ∙ e)) } };
         value = rw (sum-all x y (length t) a same) (go (2 ^ (64 * length t)) (bit carry) value);
         led = λ e. top-some t below (room-some p (length t) room) (all (rw e at value));
       }
@@ -130,7 +131,7 @@ limbs-modest p n room = omega (arith, room .count, room .most)
 pub covered-parted : (p : ℕ) (x y : Operand) (n z top : ℕ) → Room p n → Parted x y n z → top ≡ x .exponent → ltb (top + 1) (leastExponent + 64 * n) ≡ false → Covered p x y n z top
 covered-parted p x y n z top room d e low =
     let few = limbs-modest p n room in
-    record { room = room; aligned = d .aligned; course = course-parted x y n z d few; within = d .within; top-is = e; high = λ f. absurd (true≢false (sym f ∙ apart x y n z d few)); low = λ f. low }
+    record { room = room; aligned = d .aligned; course = course-parted x y n z d few; within = d .within; top-is = e; inland = record { high = λ f. absurd (true≢false (sym f ∙ apart x y n z d few)); low = λ f. rw (pair-top x y, ← e) low } }
 
 module _ (p : ℕ) (x y : Operand) (t : List ℕ) (z top : ℕ) (room : Room p (length t)) (d : Parted x y (length t) z) (top-is : top ≡ x .exponent) (low : ltb (top + 1) (leastExponent + 64 * length t) ≡ false)
     (value : valueOf t ≡ (valueOf (take (length t - z) (x .limbs)) - valueOf (take (length t - z) (y .limbs))) * 2 ^ (64 * z)) (led : 0 < getD t (length t - 1) 0) where

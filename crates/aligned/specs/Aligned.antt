@@ -1,17 +1,15 @@
 -- Two numbers of one exponent that have as many limbs as the target. Definitions only.
 use Prim.Native.Nat.{ℕ, _+_, _-_, _*_, _^_, _≤_, _<_}
 use mathlib.Core.Path.{_≡_}
-use mathlib.Core.Bool.{Bool, true, false, Bool·beq}
+use mathlib.Core.Bool.{Bool, false, Bool·beq}
 use mathlib.Core.List.{List}
-use lib.Dec.{ltb}
 use lib.ListN.{length, take, drop, getD}
 use Rattle.limb.specs.Value.{valueOf}
 use Rattle.limb.specs.Carry.{bit}
-use Rattle.numbers.specs.Limits.{leastExponent, mostExponent}
 use Rattle.numbers.specs.Operand.{Operand, WellFormed}
 use Rattle.bridge.specs.Verdict.{pairOf, readSum}
 use Rattle.descent.specs.Ready.{Room}
-use Rattle.descent.specs.Course.{Course}
+use Rattle.descent.specs.Course.{Course, Inland}
 
 -- two regular operands of one exponent, and n limbs of each
 pub record Aligned (x y : Operand) (n : ℕ) : Type 0 where
@@ -54,8 +52,7 @@ pub record Covered (p : ℕ) (x y : Operand) (n z top : ℕ) : Type 0 where
   pub course : Course x y z
   pub within : z < n
   pub top-is : top ≡ x .exponent
-  pub high : pairOf x y .same ≡ true → ltb mostExponent (top + 2) ≡ false
-  pub low : pairOf x y .same ≡ false → ltb (top + 1) (leastExponent + 64 * n) ≡ false
+  pub inland : Inland (pairOf x y) n
 
 -- all that there is of their sum stands in the target, moved up by z columns, with a carry on top
 pub record Standing (p : ℕ) (x y : Operand) (target : List ℕ) (carry : Bool) (z top : ℕ) : Type 0 where

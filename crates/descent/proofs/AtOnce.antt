@@ -6,7 +6,7 @@ use Prim.Native.Nat.{ℕ, zero, suc, _+_, _-_, _*_, _/_, _%_, _^_, _≤_, _<_}
 use native.Mathlib.Decide.{decLe}
 use native.Mathlib.Nat.{div-add-mod', mod-lt, mul-le-mul-left, mul-le-mul-right}
 use native.Mathlib.Omega.{arith}
-use borrow.Author.Tests.{lt-leb, leb-true, ltb-true}
+use borrow.Author.Tests.{le-ltb, lt-leb, leb-true, ltb-true, ltb-false}
 use lib.Dec.{ltb, leb, eqb}
 use lib.ListN.{length, drop, getD}
 use lib.Pow.{pow-pos, pow-add}
@@ -14,7 +14,7 @@ use lib.Ieee.Digits.{size-le}
 use Rattle.limb.specs.Value.{valueOf, valueIn}
 use Rattle.limb.specs.Carry.{bit}
 use Rattle.limb.proofs.Value.{value-split, value-drop, base-pow}
-use Rattle.numbers.specs.Limits.{leastPrecision, mostPrecision, leastExponent, mostExponent, limbsFor}
+use Rattle.numbers.specs.Limits.{leastPrecision, mostPrecision, leastExponent, limbsFor}
 use Rattle.numbers.specs.Operand.{Operand}
 use Rattle.numbers.proofs.Digits.{precision-two}
 use Rattle.rounding.specs.Mode.{Mode, Way, way}
@@ -42,7 +42,7 @@ use Rattle.bridge.proofs.Covered.{settled-covers, columns-above}
 use Rattle.bridge.proofs.Theorems.{leads-later}
 use Rattle.descent.specs.declared.going.Verdict.{Verdict}
 use Rattle.descent.specs.Ready.{Room}
-use Rattle.descent.specs.Course.{Course, Judged, Stopped, Prompt, Sighted, Held, Begun, Going, Reached, Underway, Arriving, Arrived, open?}
+use Rattle.descent.specs.Course.{Course, Judged, Stopped, Inland, Prompt, Sighted, Held, Begun, Going, Reached, Underway, Arriving, Arrived, open?}
 use Rattle.descent.proofs.GoingOn.{secondRead, sum-is, sum-below, difference-is}
 use Rattle.descent.proofs.JudgingRows.{pair-modest}
 use Rattle.descent.proofs.GoingDown.{room-some, room-kept, open-before, held-first, goes-on, stops}
@@ -79,8 +79,11 @@ inner-first s k h =
 
 -- ---- where no refusal is near, none is found
 
-module _ (o : Mode) (p : ℕ) (P : 0 < p) (x y : Operand) (k : ℕ) (d : Ordered x y) (K : 1 ≤ k) (lead : Leads x y k) (above : 64 * k ≤ pairOf x y .top)
-    (high : pairOf x y .same ≡ true → ltb mostExponent (pairOf x y .top + 2) ≡ false) (low : pairOf x y .same ≡ false → ltb (pairOf x y .top + 1) (leastExponent + 64 * k) ≡ false) where
+-- none is near after n columns, nor after fewer
+pub inland-sooner : (pair : Pair) (n k : ℕ) → k ≤ n → Inland pair n → Inland pair k
+inland-sooner pair n k l i = record { high = i .high; low = λ e. le-ltb (pair .top + 1) (leastExponent + 64 * k) (omega (arith, ltb-false (pair .top + 1) (leastExponent + 64 * n) (i .low e))) }
+
+module _ (o : Mode) (p : ℕ) (P : 0 < p) (x y : Operand) (k : ℕ) (d : Ordered x y) (K : 1 ≤ k) (lead : Leads x y k) (above : 64 * k ≤ pairOf x y .top) (inland : Inland (pairOf x y) k) where
   abbrev toward : Way
   toward = way o (x .negative)
 
@@ -100,8 +103,8 @@ module _ (o : Mode) (p : ℕ) (P : 0 < p) (x y : Operand) (k : ℕ) (d : Ordered
       go : (b : Bool) → pairOf x y .same ≡ b
           → cond b (large? toward p (pairOf x y .top - 64 * k) sum-read (isFar (pairOf x y) k) (isFar (pairOf x y) k && eqb (pairOf x y .gap) (64 * k)))
           (not (isFar (pairOf x y) k) && small? toward p (pairOf x y .top - 64 * k) sum-read (ltb 0 (openDigits (pairOf x y) k)) (openDigits (pairOf x y) k)) ≡ false
-      go true e = not-large toward p (pairOf x y .top) k sum-read _ _ above (high e) (sum e)
-      go false e = rw (not-small toward p (pairOf x y .top) k sum-read (ltb 0 (openDigits (pairOf x y) k)) (openDigits (pairOf x y) k) above (low e) (sum-pos o p P x y k d K lead)) (and-false (not (isFar (pairOf x y) k)))
+      go true e = not-large toward p (pairOf x y .top) k sum-read _ _ above (inland .high e) (sum e)
+      go false e = rw (not-small toward p (pairOf x y .top) k sum-read (ltb 0 (openDigits (pairOf x y) k)) (openDigits (pairOf x y) k) above (inland .low e) (sum-pos o p P x y k d K lead)) (and-false (not (isFar (pairOf x y) k)))
 
 -- ---- one column fewer than fill the target fixes nothing
 
@@ -182,7 +185,7 @@ module _ (o : Mode) (p : ℕ) (x y : Operand) (from : ℕ) (course : Course x y 
             omega (arith, c, size-le D (64 * i) small, short)
 
     calm : refusedBy w p (pairOf x y) k D ≡ false
-    calm = unrefused o p some-p x y k (course .ordered) K lead above (prompt .high) (λ e. rw last at (prompt .low e))
+    calm = unrefused o p some-p x y k (course .ordered) K lead above (rw last at (prompt .inland))
 
     by-row : (row : Row) → inner? row ≡ true → (settledBy w p D row ≡ true → ⊥) → verdict o p x y k row ≡ false
     unfolding verdict testBy inner?
@@ -411,8 +414,7 @@ module _ (p : ℕ) (pair : Pair) (first second : List ℕ) (from : ℕ) (before 
         mine = record {
           first-long = rw (held .first-is) at (prompt .first-long);
           second-long = λ h. long h;
-          high = λ s. rw (held .pair-is) at (prompt .high (rw (held .pair-is) s));
-          low = λ s. rw (held .pair-is) at (prompt .low (rw (held .pair-is) s));
+          inland = rw (held .pair-is) at (prompt .inland);
         }
           where
             long : 0 < pairOf x y .second → (length (y .limbs) ≤ 2 ^ 20) × (64 * (from + length before - 1) ≤ 64 * length (y .limbs) + pairOf x y .gap)

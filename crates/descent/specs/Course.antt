@@ -117,12 +117,16 @@ pub record Arriving (p : ℕ) (toward : code.Way) (pair : Pair) (first second : 
   pub held : Held mode larger other toward pair first second
   pub reached : Reached larger other w target k
 
+-- no refusal is near after n columns
+pub record Inland (pair : Pair) (n : ℕ) : Type 0 where
+  pub high : pair .same ≡ true → ltb mostExponent (pair .top + 2) ≡ false
+  pub low : pair .same ≡ false → ltb (pair .top + 1) (leastExponent + 64 * n) ≡ false
+
 -- the columns that fill a target of n limbs, from one on, end within both operands, and no refusal is near
 pub record Prompt (pair : Pair) (first second from n : ℕ) : Type 0 where
   pub first-long : from + n ≤ first
   pub second-long : 0 < pair .second → (second ≤ 2 ^ 20) × (64 * (from + n - 1) ≤ 64 * second + pair .gap)
-  pub high : pair .same ≡ true → ltb mostExponent (pair .top + 2) ≡ false
-  pub low : pair .same ≡ false → ltb (pair .top + 1) (leastExponent + 64 * (from + n - 1)) ≡ false
+  pub inland : Inland pair (from + n - 1)
 
 -- what is asked to see that
 pub record Sighted (pair : Pair) (first from n : ℕ) : Type 0 where

@@ -2,14 +2,12 @@
 ghost use mathlib.Core.Path.{_≡_};
 ghost use mathlib.Core.Bool.{true, false};
 ghost use Prim.Native.Nat.{_+_, _-_, _*_, _^_, _≤_, _<_};
-ghost use lib.Dec.{ltb};
 ghost use lib.ListN.{length};
-ghost use Rattle.numbers.specs.Limits.{leastExponent, mostExponent};
 ghost use Rattle.numbers.specs.Operand.{Operand};
 ghost use Rattle.walk.specs.Window.{headOf};
 ghost use Rattle.leap.specs.Leap.{Leapt};
 ghost use Rattle.bridge.specs.Verdict.{pairOf, readSum};
-ghost use Rattle.descent.specs.Course.{Course, Prompt, Sighted};
+ghost use Rattle.descent.specs.Course.{Course, Inland, Prompt, Sighted};
 use settle::Pair;
 use walk::Window;
 
@@ -30,7 +28,7 @@ fn reaches(pair: Pair, second: usize, last: u64) -> bool
 // Whether no refusal is near after so many columns.
 pub fn is_inland(pair: Pair, columns: u64) -> bool
     requires { ⌜ (pair .top ≤ 2 ^ 42) × (columns ≤ 2 ^ 20) ⌝ }
-    ensures { λ r. ⌜ (r ≡ true → pair .same ≡ true → ltb mostExponent (pair .top + 2) ≡ false) × (r ≡ true → pair .same ≡ false → ltb (pair .top + 1) (leastExponent + 64 * columns) ≡ false) ⌝ }
+    ensures { λ r. ⌜ (r ≡ true → Inland pair columns) ⌝ }
 {
     if pair.same {
         !bounds::is_high(pair.top)

@@ -5,10 +5,10 @@ use mathlib.Core.List.{List}
 use Prim.Native.Nat.{ℕ, _+_, _-_, _*_, _^_, _≤_, _<_}
 use native.Mathlib.Omega.{arith}
 use borrow.Author.Tests.{le-leb}
-use lib.Dec.{ltb, leb}
+use lib.Dec.{leb}
 use lib.ListN.{length}
 use Rattle.limb.specs.Value.{valueOf, Below}
-use Rattle.numbers.specs.Limits.{leastExponent, mostPrecision, limbsFor}
+use Rattle.numbers.specs.Limits.{mostPrecision, limbsFor}
 use Rattle.numbers.specs.Operand.{Operand}
 use Rattle.rounding.specs.Mode.{modeOf}
 use Rattle.place.specs.declared.Placed.{Placed}
@@ -19,7 +19,7 @@ use Rattle.walk.specs.Change.{Fallen}
 use Rattle.settle.specs.declared.rows.Pair.{Pair}
 use Rattle.bridge.proofs.Told.{pair-first}
 use Rattle.descent.specs.Ready.{Room}
-use Rattle.descent.specs.Course.{Prompt}
+use Rattle.descent.specs.Course.{Inland, Prompt}
 use Rattle.descent.proofs.GoingDown.{room-some, room-kept}
 use Rattle.reports.specs.Counts.{usedOf}
 use Rattle.reports.proofs.Counts.{used-none, used-all}
@@ -89,7 +89,7 @@ module _ (p : ℕ) (pair : Pair) (first before : List ℕ) (a : Alone p pair fir
   apart = rw (le-leb (64 * n) (pair .gap) (a .below), le-leb (pair .first) (64 * n) fits) refl
 
   prompt : Prompt pair (length first) (length second) 0 n
-  prompt = record { first-long = omega (arith, a .long); second-long = λ s. (second-few, omega (arith, a .below)); high = a .high; low = λ s. subst (λ (m : ℕ). ltb (pair .top + 1) (leastExponent + 64 * m) ≡ false) start (a .low s) }
+  prompt = record { first-long = omega (arith, a .long); second-long = λ s. (second-few, omega (arith, a .below)); inland = subst (Inland pair) start (a .inland) }
     where
       start : n - 1 ≡ 0 + n - 1
       start = omega arith

@@ -82,7 +82,7 @@ module _ (p : ℕ) (pair : Pair) (first before : List ℕ) (a : Alone p pair fir
 
   -- a sum's exponent may go up by one
   pub below-most : pair .same ≡ true → pair .top < mostExponent
-  below-most s = let l = ltb-false mostExponent (pair .top + 2) (a .high s) in omega arith
+  below-most s = let l = ltb-false mostExponent (pair .top + 2) (a .inland .high s) in omega arith
 
   -- ---- a copy of it
 

@@ -3,14 +3,13 @@ use Prim.Native.Nat.{ℕ, _+_, _-_, _*_, _^_, _≤_, _<_}
 use mathlib.Core.Path.{_≡_}
 use mathlib.Core.Bool.{Bool, true, false}
 use mathlib.Core.List.{List}
-use lib.Dec.{ltb}
 use lib.ListN.{length}
 use Rattle.limb.specs.Value.{Below}
-use Rattle.numbers.specs.Limits.{leastExponent, mostExponent}
 use Rattle.place.specs.declared.Placed.{Placed}
 use Rattle.place.specs.Rounded.{roundedPlaced, roundedLimbs}
 use Rattle.settle.specs.declared.rows.Pair.{Pair}
 use Rattle.descent.specs.Ready.{Room}
+use Rattle.descent.specs.Course.{Inland}
 use Rattle.wide.specs.Filling.{Offered}
 use Rattle.far.specs.Beside.{Beside}
 
@@ -22,8 +21,7 @@ pub record Alone (p : ℕ) (pair : Pair) (first target : List ℕ) : Type 0 wher
   pub long : length first ≡ length target
   pub below : 64 * length target ≤ pair .gap
   pub far : p + 1 < pair .gap
-  pub high : pair .same ≡ true → ltb mostExponent (pair .top + 2) ≡ false
-  pub low : pair .same ≡ false → ltb (pair .top + 1) (leastExponent + 64 * (length target - 1)) ≡ false
+  pub inland : Inland pair (length target - 1)
 
 -- a little more or a little less than `first`, as a run of limbs with its guard, is rounded
 pub record Answered (mode p : ℕ) (negative : Bool) (pair : Pair) (first : List ℕ) (r : Placed) (exit : List ℕ) : Type 0 where

@@ -1,16 +1,15 @@
 -- Two operands of as many limbs as the target, less than a limb apart: what one walk leaves in it is what is read of them, alone or with the guard, and no fewer columns fix the answer. Assumes nothing.
 use mathlib.Core.Path.{_≡_, refl, sym, ap, _∙_, subst}
 use mathlib.Core.Logic.{inl, inr}
-use mathlib.Core.Bool.{Bool, true, false, not, cond, true≢false}
+use mathlib.Core.Bool.{Bool, true, false, cond, true≢false}
 use mathlib.Core.List.{List}
 use Prim.Native.Nat.{ℕ, min, _+_, _-_, _*_, _/_, _%_, _^_, _≤_, _<_}
 use native.Mathlib.Omega.{arith}
-use borrow.Author.Tests.{le-ltb, lt-leb, ltb-false}
-use lib.Dec.{ltb}
+use borrow.Author.Tests.{lt-leb}
 use lib.ListN.{length, getD}
 use Rattle.limb.specs.Value.{valueOf, Below}
 use Rattle.limb.specs.Carry.{bit}
-use Rattle.numbers.specs.Limits.{leastExponent, mostExponent, mostPrecision, limbsFor}
+use Rattle.numbers.specs.Limits.{mostPrecision, limbsFor}
 use Rattle.numbers.specs.Operand.{Operand}
 use Rattle.rounding.specs.Mode.{nearest}
 use Rattle.rounding.proofs.Order.{le-or-lt}
@@ -27,19 +26,16 @@ use Rattle.settle.specs.declared.rows.Pair.{Pair}
 use Rattle.bridge.specs.Verdict.{pairOf, readSum}
 use Rattle.bridge.proofs.Told.{alone-second}
 use Rattle.descent.specs.Ready.{Room}
-use Rattle.descent.specs.Course.{Prompt}
+use Rattle.descent.specs.Course.{Inland, Prompt}
 use Rattle.descent.proofs.GoingDown.{room-some}
 use Rattle.descent.proofs.JudgingRange.{digits-some}
-use Rattle.descent.proofs.AtOnce.{not-true, prompt-open}
+use Rattle.descent.proofs.AtOnce.{inland-sooner, prompt-open}
 use Rattle.wide.specs.declared.filling.Filled.{Filled}
 use Rattle.wide.specs.Filling.{Holding, Offered, Rounds, Fills, Promptly}
 use Rattle.wide.specs.Guarding.{Spent, Guards}
 use Rattle.wide.proofs.GuardBelow.{read-held, leads-held}
-use Rattle.near.specs.Abreast.{Abreast, Inland, Moved, Fallen}
+use Rattle.near.specs.Abreast.{Abreast, Moved, Guarding}
 use Rattle.near.proofs.Moving.{read-moved, read-below, read-unmoved, read-unmoved-past}
-
-fewer-low : (t l m : ℕ) → ltb t (l + 64 * m) ≡ false → ltb t (l + 64 * (0 + m - 1)) ≡ false
-fewer-low t l m e = le-ltb t (l + 64 * (0 + m - 1)) (omega (arith, ltb-false t (l + 64 * m) e))
 
 one-at-most : (c : Bool) → bit c ≤ 1
 unfolding bit
@@ -65,8 +61,7 @@ module _ (p : ℕ) (pair : Pair) (first second before : List ℕ) (room : Room p
       record {
         first-long = omega (arith, beside .first-long);
         second-long = λ s. (omega (arith, few, beside .second-long), omega (arith, beside .second-long));
-        high = inland .high;
-        low = λ e. fewer-low _ _ n (inland .low e);
+        inland = inland-sooner pair n _ (omega arith) inland;
       }
 
   -- ---- what is read of them
@@ -120,7 +115,7 @@ module _ (p : ℕ) (pair : Pair) (first second before : List ℕ) (room : Room p
     second-past : readTo (n + 1) gap second ≡ s * 2 ^ 64 + b
     second-past = read-below gap (beside .close) second n (beside .second-long) limbs
 
-    past : (after : List ℕ) (carry : Bool) (guard : ℕ) (borrow : Bool) → carry ≡ false → Moved (pair .same) a s borrow n after carry → Fallen (pair .same) b guard borrow → readSum x y (n + 1) ≡ valueOf after * 2 ^ 64 + guard
+    past : (after : List ℕ) (carry : Bool) (guard : ℕ) (borrow : Bool) → carry ≡ false → Moved (pair .same) a s borrow n after carry → Guarding (pair .same) b guard borrow → readSum x y (n + 1) ≡ valueOf after * 2 ^ 64 + guard
     past after carry guard borrow off m f = read-held x y pair first second h (n + 1) ∙ rw (first-past, second-past) (go (pair .same) refl)
       where
         none : bit carry ≡ 0
@@ -167,9 +162,9 @@ module _ (p : ℕ) (pair : Pair) (first second before : List ℕ) (room : Room p
           (leapt 0 (n - 1) before after leap (m .size) (readSum x y (0 + n)) carry (leaptTo 0 carry (length after)) refl (ap (readSum x y) start ∙ whole x y h after carry m))
 
   pub guards : (after : List ℕ) (carry : Bool) (guard : ℕ) (borrow : Bool) → carry ≡ false → Moved (pair .same) (valueOf first) (valueOf second / 2 ^ gap) borrow n after carry
-      → Fallen (pair .same) (getD second 0 0 * 2 ^ (64 - gap) % 2 ^ 64) guard borrow → Spent p pair n → Guards p pair first second after guard
+      → Guarding (pair .same) (getD second 0 0 * 2 ^ (64 - gap) % 2 ^ 64) guard borrow → Spent p pair n → Guards p pair first second after guard
   guards after carry guard borrow off m f spent =
-      record { spent = rw (m .size) spent; high = inland .high; low = rw (m .size) (inland .low); value = λ x y h. rw (m .size) (past x y h after carry guard borrow off m f) }
+      record { spent = rw (m .size) spent; inland = rw (m .size) inland; value = λ x y h. rw (m .size) (past x y h after carry guard borrow off m f) }
 
   -- ---- the depth
 
@@ -199,10 +194,7 @@ module _ (p : ℕ) (pair : Pair) (first second before : List ℕ) (room : Room p
     pub deep : n ≤ r .depth
     deep = elim (le-or-lt n (r .depth)) [ inl l ↦ l | inr l ↦ absurd (short l) ]
 
--- ---- what the code tests and tells
-
-pub inland-told : (pair : Pair) (n : ℕ) (r : Bool) → (r ≡ true → pair .same ≡ true → ltb mostExponent (pair .top + 2) ≡ false) × (r ≡ true → pair .same ≡ false → ltb (pair .top + 1) (leastExponent + 64 * n) ≡ false) → not r ≡ false → Inland pair n
-inland-told pair n r t e = let q = not-true r e in record { high = t .0 q; low = t .1 q }
+-- ---- what the code tells
 
 -- all limbs are used
 pub all-used : (k gap m n : ℕ) (l : List ℕ) → gap < 64 → 0 < n → n ≤ k → m ≡ n → length l ≡ n → m ≡ usedOf k gap (length l)

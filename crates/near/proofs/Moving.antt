@@ -13,7 +13,7 @@ use Rattle.limb.proofs.Value.{value-nil, value-take, value-low, value-lt, base-
 use Rattle.columns.specs.Column.{readTo}
 use Rattle.leap.proofs.Leaping.{read-down}
 use Rattle.fused.specs.Fused.{SumOf, DifferenceOf}
-use Rattle.near.specs.Abreast.{Moved, Fallen}
+use Rattle.near.specs.Abreast.{Moved, Guarding}
 
 -- ---- what is read
 
@@ -93,8 +93,8 @@ module _ (same : Bool) (a b : ℕ) (borrow : Bool) (n : ℕ) (after : List ℕ) 
 
 -- ---- the guard
 
-pub fallen-sum : (same : Bool) (below : ℕ) → same ≡ true → Fallen same below below false
-fallen-sum same below s = record { sum = λ e. refl; difference = λ e. absurd (true≢false (sym s ∙ e)) }
+pub guarding-sum : (same : Bool) (below : ℕ) → same ≡ true → Guarding same below below false
+guarding-sum same below s = record { sum = λ e. refl; difference = λ e. absurd (true≢false (sym s ∙ e)) }
 
-pub fallen-difference : (same : Bool) (below guard : ℕ) (borrow : Bool) → same ≡ false → guard + below + bit false ≡ 0 + 2 ^ 64 * bit borrow → Fallen same below guard borrow
-fallen-difference same below guard borrow s v = record { sum = λ e. absurd (true≢false (sym e ∙ s)); difference = λ e. let z : bit false ≡ 0 = unfold bit in refl in omega (arith, v, z) }
+pub guarding-difference : (same : Bool) (below guard : ℕ) (borrow : Bool) → same ≡ false → guard + below + bit false ≡ 0 + 2 ^ 64 * bit borrow → Guarding same below guard borrow
+guarding-difference same below guard borrow s v = record { sum = λ e. absurd (true≢false (sym e ∙ s)); difference = λ e. let z : bit false ≡ 0 = unfold bit in refl in omega (arith, v, z) }

@@ -3,11 +3,9 @@ use Prim.Native.Nat.{ℕ, _+_, _*_, _^_, _≤_, _<_}
 use mathlib.Core.Path.{_≡_}
 use mathlib.Core.Bool.{Bool, true, false}
 use mathlib.Core.List.{List}
-use lib.Dec.{ltb}
 use lib.ListN.{length}
 use Rattle.limb.specs.Value.{valueOf}
 use Rattle.limb.specs.Carry.{bit}
-use Rattle.numbers.specs.Limits.{leastExponent, mostExponent}
 use Rattle.settle.specs.declared.rows.Pair.{Pair}
 
 -- both have n limbs, and the second begins 1 to 63 digits below the first
@@ -17,11 +15,6 @@ pub record Abreast (pair : Pair) (first second : List ℕ) (n : ℕ) : Type 0 wh
   pub apart : 0 < pair .gap
   pub close : pair .gap < 64
 
--- no refusal is near after n columns
-pub record Inland (pair : Pair) (n : ℕ) : Type 0 where
-  pub high : pair .same ≡ true → ltb mostExponent (pair .top + 2) ≡ false
-  pub low : pair .same ≡ false → ltb (pair .top + 1) (leastExponent + 64 * n) ≡ false
-
 -- n limbs hold a + b, the carry above them; or a - b - borrow, where that is no less than 0
 pub record Moved (same : Bool) (a b : ℕ) (borrow : Bool) (n : ℕ) (after : List ℕ) (carry : Bool) : Type 0 where
   pub size : length after ≡ n
@@ -29,6 +22,6 @@ pub record Moved (same : Bool) (a b : ℕ) (borrow : Bool) (n : ℕ) (after : Li
   pub difference : same ≡ false → b + bit borrow ≤ a → (carry ≡ false) × (valueOf after + b + bit borrow ≡ a)
 
 -- a limb that falls below the target, added to nothing, or taken off it with a borrow from above
-pub record Fallen (same : Bool) (below guard : ℕ) (borrow : Bool) : Type 0 where
+pub record Guarding (same : Bool) (below guard : ℕ) (borrow : Bool) : Type 0 where
   pub sum : same ≡ true → guard ≡ below
   pub difference : same ≡ false → guard + below ≡ 2 ^ 64 * bit borrow

@@ -5,9 +5,10 @@ ghost use Prim.Native.Nat.{_-_, _*_, _/_, _%_, _^_, _≤_, _<_};
 ghost use lib.ListN.{length};
 ghost use Rattle.limb.specs.Value.{valueOf};
 ghost use Rattle.descent.specs.Ready.{Room};
+ghost use Rattle.descent.specs.Course.{Inland};
 ghost use Rattle.wide.specs.Filling.{Offered, Fills};
 ghost use Rattle.wide.specs.Guarding.{Spent};
-ghost use Rattle.near.specs.Abreast.{Abreast, Inland, Moved, Fallen};
+ghost use Rattle.near.specs.Abreast.{Abreast, Moved, Guarding};
 use settle::Pair;
 use wide::Filled;
 use wide::none;
@@ -21,7 +22,7 @@ pub struct Guard {
 // What falls below the target of the second operand, by its lowest limb: the first has nothing there.
 fn guard_of(same: bool, lowest: u64, gap: u64) -> Guard
     requires { ⌜ (0 < gap) × (gap < 64) ⌝ }
-    ensures { λ r. ⌜ Fallen same (lowest * 2 ^ (64 - gap) % 2 ^ 64) (r .limb) (r .borrow) ⌝ }
+    ensures { λ r. ⌜ Guarding same (lowest * 2 ^ (64 - gap) % 2 ^ 64) (r .limb) (r .borrow) ⌝ }
 {
     let below = lowest << (64 - gap);
     if same {

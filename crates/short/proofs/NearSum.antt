@@ -5,7 +5,7 @@ use mathlib.Core.List.{List, [], _∷_}
 use Prim.Native.Nat.{ℕ, _+_, _-_, _*_, _^_, _≤_, _<_, Ordering·eq}
 use native.Mathlib.Nat.{lt-of-lt-of-le, mul-assoc}
 use native.Mathlib.Omega.{arith}
-use borrow.Author.Tests.{le-leb, le-ltb, leb-true, ltb-false}
+use borrow.Author.Tests.{le-leb, leb-true, ltb-false}
 use lib.Dec.{ltb, leb}
 use lib.Ieee.{size}
 use lib.IntN.{pos}
@@ -38,8 +38,10 @@ use Rattle.bridge.proofs.Decision.{decision}
 use Rattle.bridge.proofs.Answers.{exact-sum, sum-pos}
 use Rattle.bridge.proofs.Covered.{columns-above}
 use Rattle.descent.specs.Ready.{Room}
+use Rattle.descent.specs.Course.{Inland}
 use Rattle.ending.specs.Finishing.{Left}
 use Rattle.descent.proofs.JudgingRange.{digits-some}
+use Rattle.descent.proofs.AtOnce.{inland-sooner}
 use Rattle.ending.proofs.RegularEnd.{deep-enough}
 use Rattle.wide.specs.Filling.{Holding}
 use Rattle.wide.specs.Attempted.{Attempted}
@@ -102,9 +104,9 @@ module _ (p : ℕ) (pair : Pair) (u v n : ℕ) (room : Room p n) (long : 2 < n) 
   open-one : leb (pair .gap + pair .second) (64 * 1) ≡ false → decideAt o p x y 1 ≡ false
   open-one e =
       let unread : (leb (pair .first) (64 * 1) && leb (pair .gap + pair .second) (64 * 1)) ≡ false = rw (le-leb (pair .first) (64 * 1) (first-few x y pair u v h), e) refl in
-      let calm : ltb (pair .top + 1) (leastExponent + 64 * 1) ≡ false = le-ltb (pair .top + 1) (leastExponent + 64 * 1) (omega (arith, ltb-false (pair .top + 1) (leastExponent + 64 * n) low)) in
+      let calm : Inland pair 1 = inland-sooner pair n 1 (omega arith) (record { high = λ q. high; low = λ q. low }) in
       let up : 64 * 1 ≤ pair .top = omega (arith, above, at-top) in
-      short-open o p some-p x y 1 d (omega arith) (lead 1 (omega arith)) (h .regular) (rw (h .pair-is) at up) (λ q. rw (h .pair-is) at high) (λ q. rw (h .pair-is) at calm) (rw (h .pair-is) at near) (rw (h .pair-is) at unread) (omega (arith, many, sum-size x y pair u v h 1))
+      short-open o p some-p x y 1 d (omega arith) (lead 1 (omega arith)) (h .regular) (rw (h .pair-is) at up) (rw (h .pair-is) at calm) (rw (h .pair-is) at near) (rw (h .pair-is) at unread) (omega (arith, many, sum-size x y pair u v h 1))
 
   record Deep (k : ℕ) : Type 0 where
     some : 1 ≤ k

@@ -18,7 +18,7 @@ use Rattle.limb.proofs.Carry.{bit-le}
 use Rattle.limb.specs.Value.{valueOf, valueIn, Below}
 use Rattle.limb.specs.Carry.{bit}
 use Rattle.limb.proofs.Value.{value-lt, value-take-lt, base-pow}
-use Rattle.numbers.specs.Limits.{leastExponent, mostPrecision, limbsFor}
+use Rattle.numbers.specs.Limits.{mostPrecision, limbsFor}
 use Rattle.numbers.specs.Operand.{Operand}
 use Rattle.rounding.specs.Mode.{Mode, Way, way}
 use Rattle.rounding.specs.Answer.{rounded}
@@ -43,7 +43,7 @@ use Rattle.bridge.proofs.Answers.{tests-are}
 use Rattle.bridge.proofs.Theorems.{row-sum, leads-later}
 use Rattle.bridge.proofs.Covered.{columns-above}
 use Rattle.descent.specs.Ready.{Room}
-use Rattle.descent.specs.Course.{Inside, Prompt, Sighted}
+use Rattle.descent.specs.Course.{Inside, Inland, Prompt, Sighted}
 use Rattle.descent.proofs.JudgingRange.{digits-some}
 use Rattle.descent.proofs.GoingDown.{room-some}
 use Rattle.descent.proofs.Inside.{inside-plus, inside-minus}
@@ -192,7 +192,7 @@ module _ (p : ℕ) (pair : Pair) (first second target : List ℕ) (guard : ℕ) 
     open-before : decideAt o p x y n ≡ false
     open-before =
         short-open o p some-p x y n d some (leads-held x y pair first second h n some) (h .regular) (omega (arith, pair-top x y, above n (omega arith)))
-        (rw (h .pair-is) at (g .high)) (rw (h .pair-is) at (g .low)) (rw (h .pair-is) at (g .spent .reached)) (rw (h .pair-is) at (g .spent .unread))
+        (rw (h .pair-is) at (g .inland)) (rw (h .pair-is) at (g .spent .reached)) (rw (h .pair-is) at (g .spent .unread))
         (omega (arith, size-le (readSum x y n) (64 * n) small, g .spent .full))
 
     here : (row : Row) → rowOf pair k ≡ row → rowOf (pairOf x y) k ≡ row
@@ -256,24 +256,24 @@ module _ (p : ℕ) (pair : Pair) (first second before : List ℕ) (sight : Sight
     record { columns = l; limbs = prompt .second-long some .0; near = sight .gap },
   )
 
-  module _ (after : List ℕ) (size : length after ≡ length before) (r : Guarded) (off : r .carry ≡ false) where
-    abbrev m : ℕ
-    m = length before + 1
+module _ (p : ℕ) (pair : Pair) (first second before after : List ℕ) (size : length after ≡ length before) (r : Guarded) (off : r .carry ≡ false) where
+  abbrev m : ℕ
+  m = length before + 1
 
-    pub guards : Spent p pair (length before) → (pair .same ≡ false → ltb (pair .top + 1) (leastExponent + 64 * length before) ≡ false)
-        → ((pair .same ≡ false → readTo m (pair .gap) second ≤ readTo m 0 first) → Runs (cond (pair .same) (readTo m 0 first + readTo m (pair .gap) second) (readTo m 0 first - readTo m (pair .gap) second)) after r)
-        → Guards p pair first second after (r .guard)
-    guards spent low run =
-        record { spent = rw size spent; high = prompt .high; low = rw size low; value = λ x y h. rw size (read-held x y pair first second h m ∙ run (λ e. not-less x y h e) ∙ flat) }
-      where
-        under : {a b : ℕ} → a < b → a ≤ b
-        under h = omega arith
+  pub guards : Spent p pair (length before) → Inland pair (length before)
+      → ((pair .same ≡ false → readTo m (pair .gap) second ≤ readTo m 0 first) → Runs (cond (pair .same) (readTo m 0 first + readTo m (pair .gap) second) (readTo m 0 first - readTo m (pair .gap) second)) after r)
+      → Guards p pair first second after (r .guard)
+  guards spent inland run =
+      record { spent = rw size spent; inland = rw size inland; value = λ x y h. rw size (read-held x y pair first second h m ∙ run (λ e. not-less x y h e) ∙ flat) }
+    where
+      under : {a b : ℕ} → a < b → a ≤ b
+      under h = omega arith
 
-        not-less : (x y : Operand) → Holding x y pair first second → pair .same ≡ false → readTo m (pair .gap) second ≤ readTo m 0 first
-        not-less x y h e = rw (h .first-is, h .second-is, h .pair-is) (under (leads-held x y pair first second h m (omega arith) (rw (h .pair-is) at e)))
+      not-less : (x y : Operand) → Holding x y pair first second → pair .same ≡ false → readTo m (pair .gap) second ≤ readTo m 0 first
+      not-less x y h e = rw (h .first-is, h .second-is, h .pair-is) (under (leads-held x y pair first second h m (omega arith) (rw (h .pair-is) at e)))
 
-        flat : (bit (r .carry) * 2 ^ (64 * length after) + valueOf after) * 2 ^ 64 + r .guard ≡ valueOf after * 2 ^ 64 + r .guard
-        flat = let z : bit (r .carry) ≡ 0 = ap bit off ∙ (unfold bit in refl) in rw z (go (2 ^ (64 * length after)) (valueOf after) (r .guard))
-          where
-            go : (P v g : ℕ) → (0 * P + v) * 2 ^ 64 + g ≡ v * 2 ^ 64 + g
-            go P v g = omega arith
+      flat : (bit (r .carry) * 2 ^ (64 * length after) + valueOf after) * 2 ^ 64 + r .guard ≡ valueOf after * 2 ^ 64 + r .guard
+      flat = let z : bit (r .carry) ≡ 0 = ap bit off ∙ (unfold bit in refl) in rw z (go (2 ^ (64 * length after)) (valueOf after) (r .guard))
+        where
+          go : (P v g : ℕ) → (0 * P + v) * 2 ^ 64 + g ≡ v * 2 ^ 64 + g
+          go P v g = omega arith

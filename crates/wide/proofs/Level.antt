@@ -7,7 +7,6 @@ use borrow.Author.Tests.{le-ltb, lt-leb, ne-eqb}
 use lib.Dec.{ltb, leb, eqb}
 use lib.Ieee.{size}
 use Rattle.limb.specs.Carry.{bit}
-use Rattle.numbers.specs.Limits.{leastExponent, mostExponent}
 use Rattle.numbers.specs.Operand.{Operand}
 use Rattle.numbers.proofs.Digits.{precision-two}
 use Rattle.rounding.specs.Mode.{Mode, Way, near, under, over, way}
@@ -20,6 +19,7 @@ use Rattle.settle.specs.declared.rows.Row.the-variants.{Plus, Minus}
 use Rattle.bridge.specs.Verdict.{pairOf, Ordered, Leads, readSum, settledBy, refusedBy}
 use Rattle.bridge.proofs.Told.{pair-second}
 use Rattle.bridge.proofs.Answers.{tests-are}
+use Rattle.descent.specs.Course.{Inland}
 use Rattle.descent.proofs.AtOnce.{unrefused, seen-row}
 
 -- ---- the class test
@@ -66,8 +66,7 @@ seen-open w p D short s c = go (s .same) (ltb c (s .first) && ltb c (s .gap + s 
 
 -- ---- the decision
 
-module _ (o : Mode) (p : ℕ) (P : 0 < p) (x y : Operand) (k : ℕ) (d : Ordered x y) (K : 1 ≤ k) (lead : Leads x y k) (regular : y .isZero ≡ false) (above : 64 * k ≤ pairOf x y .top)
-    (high : pairOf x y .same ≡ true → ltb mostExponent (pairOf x y .top + 2) ≡ false) (low : pairOf x y .same ≡ false → ltb (pairOf x y .top + 1) (leastExponent + 64 * k) ≡ false)
+module _ (o : Mode) (p : ℕ) (P : 0 < p) (x y : Operand) (k : ℕ) (d : Ordered x y) (K : 1 ≤ k) (lead : Leads x y k) (regular : y .isZero ≡ false) (above : 64 * k ≤ pairOf x y .top) (inland : Inland (pairOf x y) k)
     (reached : pairOf x y .gap < 64 * k) (unread : (leb (pairOf x y .first) (64 * k) && leb (pairOf x y .gap + pairOf x y .second) (64 * k)) ≡ false) where
   abbrev s : Pair
   s = pairOf x y
@@ -79,4 +78,4 @@ module _ (o : Mode) (p : ℕ) (P : 0 < p) (x y : Operand) (k : ℕ) (d : Ordered
   pub short-open : size (readSum x y k) ≤ p → decideAt o p x y k ≡ false
   short-open short =
       tests-are o p P x y k d K lead (seenRow s (64 * k)) row-is (seen-row s (64 * k))
-      ∙ ap (λ (b : Bool). b || refusedBy (way o (x .negative)) p s k (readSum x y k)) (seen-open (way o (x .negative)) p (readSum x y k) short s (64 * k)) ∙ unrefused o p P x y k d K lead above high low
+      ∙ ap (λ (b : Bool). b || refusedBy (way o (x .negative)) p s k (readSum x y k)) (seen-open (way o (x .negative)) p (readSum x y k) short s (64 * k)) ∙ unrefused o p P x y k d K lead above inland

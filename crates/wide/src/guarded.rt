@@ -1,14 +1,13 @@
 // The target has no digit to spare: the columns that fill it fix nothing, and one more, as the guard, fixes the answer.
 ghost use mathlib.Core.Path.{_≡_};
-ghost use mathlib.Core.Bool.{true, false};
+ghost use mathlib.Core.Bool.{true};
 ghost use mathlib.Core.List.{List};
 ghost use Prim.Native.Nat.{ℕ, _+_, _-_, _*_, _%_, _^_, _≤_, _<_};
-ghost use lib.Dec.{ltb};
 ghost use lib.ListN.{length};
 ghost use lib.Ieee.{size};
-ghost use Rattle.numbers.specs.Limits.{leastExponent};
 ghost use Rattle.settle.specs.Rows.{Modest};
 ghost use Rattle.descent.specs.Ready.{Room};
+ghost use Rattle.descent.specs.Course.{Inland};
 ghost use Rattle.wide.specs.Filling.{Offered, Fills};
 ghost use Rattle.wide.specs.Guarding.{Spent, Guards};
 use crate::below::is_read;
@@ -60,15 +59,12 @@ pub fn glance_guarded(p: u64, pair: Pair, guard: u64, target: &[u64]) -> Filled
 // Whether column n begins in the lowest limb of the second operand or above, and no refusal is near after n columns.
 fn reaches_on(pair: Pair, second: usize, n: u64) -> bool
     requires { ⌜ (pair .gap ≤ 2 ^ 42) × (pair .top ≤ 2 ^ 42) × (second ≤ 2 ^ 20) × (n ≤ 2 ^ 20) ⌝ }
-    ensures { λ r. ⌜ (r ≡ true → (64 * n ≤ 64 * second + pair .gap) × (pair .same ≡ false → ltb (pair .top + 1) (leastExponent + 64 * n) ≡ false)) ⌝ }
+    ensures { λ r. ⌜ (r ≡ true → (64 * n ≤ 64 * second + pair .gap) × Inland pair n) ⌝ }
 {
     if 64 * (second as u64) + pair.gap < 64 * n {
         return false;
     }
-    if pair.same {
-        return true;
-    }
-    !bounds::is_low(pair.top, n)
+    descent::is_inland(pair, n)
 }
 
 // Fills the target with as many columns as it has limbs, and reads one more.

@@ -31,8 +31,6 @@ returns c = (refl, λ e. absurd (true≢false (sym (c .nothing .ensures) ∙ e))
 alone : (c : tie.Else1) → let s = c .before .before .before .before .before in Alone (s .args .p) (s .args .pair) (s .args .first .now) (s .args .target .now)
 alone c =
     let s = c .before .before .before .before .before in
-    let e = not-true _ (c .if1 .left) in
-    let clear = c .before .is-inland .ensures in
     record {
       second = s .args .second .now;
       offered = s .pre .1;
@@ -40,8 +38,7 @@ alone c =
       long = s .pre .2;
       below = s .pre .3;
       far = s .pre .4;
-      high = clear .0 e;
-      low = clear .1 e;
+      inland = c .before .is-inland .ensures (not-true _ (c .if1 .left));
     }
 
 round-requires : tie.Need-round-requires

@@ -13,10 +13,10 @@ is-low-requires : tie.Need-is-low-requires
 is-low-requires c κs = search needs
 
 returns : tie.Need-returns
-returns c = ((λ e s. sym (c .is-high .ensures) ∙ not-true _ e), (λ e s. absurd (true≢false (sym (c .before .if1 .taken) ∙ s))))
+returns c = λ e. record { high = λ s. sym (c .is-high .ensures) ∙ not-true _ e; low = λ s. absurd (true≢false (sym (c .before .if1 .taken) ∙ s)) }
 
 returns-2 : tie.Need-returns-2
-returns-2 c = ((λ e s. absurd (true≢false (sym s ∙ c .before .if1 .left))), (λ e s. sym (c .is-low .ensures) ∙ not-true _ e))
+returns-2 c = λ e. record { high = λ s. absurd (true≢false (sym s ∙ c .before .if1 .left)); low = λ s. sym (c .is-low .ensures) ∙ not-true _ e }
 
 pub is-inland-spec : {M : Type 1} → statement M
 is-inland-spec = tie.close (tie.spec is-high-requires is-low-requires returns returns-2)

@@ -26,7 +26,7 @@ is-inland-requires : tie.Need-is-inland-requires
 is-inland-requires c κs = search needs
 
 returns-3 : tie.Need-returns-3
-returns-3 c = λ e. record { first-long = omega (arith, c .before .before .before .if1 .left); second-long = c .before .before .reaches .ensures (not-true _ (c .before .if2 .left)); high = c .is-inland .ensures .0 e; low = c .is-inland .ensures .1 e }
+returns-3 c = λ e. record { first-long = omega (arith, c .before .before .before .if1 .left); second-long = c .before .before .reaches .ensures (not-true _ (c .before .if2 .left)); inland = c .is-inland .ensures e }
 
 pub is-prompt-spec : {M : Type 1} → statement M
 is-prompt-spec =

@@ -64,12 +64,9 @@ same-length-2 c = search needs
 
 returns-4 : tie.Need-returns-4
 returns-4 c =
-    let s = c .before .before .before .before .before .before .before .before .before .before .before .before .before .before in
-    let sight = offered-sighted (s .args .p) _ (s .args .first .now) (s .args .second .now) (s .pre .1) (s .args .target .now) (s .pre .0) in
-    let prompt = c .before .before .before .before .before .before .before .before .before .before .is-prompt .ensures (not-true _ (c .before .before .before .before .before .before .before .before .before .if1 .left)) in
-    let some = offered-second (s .args .p) _ (s .args .first .now) (s .args .second .now) (s .pre .1) in (
+    let s = c .before .before .before .before .before .before .before .before .before .before .before .before .before .before in (
       c .before .before .before .before .before .guarded-columns .ensures .0,
-      c .glance-guarded .ensures (s .args .first .now) (s .args .second .now) (guards (s .args .p) _ (s .args .first .now) (s .args .second .now) (s .args .target .now) sight prompt some _ (c .before .before .before .before .before .guarded-columns .ensures .0) _ (c .before .before .if3 .left) (s .pre .2) (c .before .before .before .before .before .before .before .before .reaches-on .ensures (not-true _ (c .before .before .before .before .before .before .before .if2 .left)) .1) (c .before .before .before .before .before .guarded-columns .ensures .1)),
+      c .glance-guarded .ensures (s .args .first .now) (s .args .second .now) (guards (s .args .p) _ (s .args .first .now) (s .args .second .now) (s .args .target .now) _ (c .before .before .before .before .before .guarded-columns .ensures .0) _ (c .before .before .if3 .left) (s .pre .2) (c .before .before .before .before .before .before .before .before .reaches-on .ensures (not-true _ (c .before .before .before .before .before .before .before .if2 .left)) .1) (c .before .before .before .before .before .guarded-columns .ensures .1)),
     )
 
 pub fill-guarded-spec : {M : Type 1} → statement M

@@ -1,7 +1,6 @@
 -- `wide::reaches_on` is right as it stands. Assumes nothing.
-use mathlib.Core.Path.{sym, _∙_}
+use mathlib.Core.Path.{sym}
 use mathlib.Core.Bool.{true≢false}
-use borrow.Author.Tests.{not-true}
 use borrow.Author.Needs.{needs}
 use Rattle.wide.proofs.guarded.reaches_on.Statement.{statement}
 use Rattle.wide.proofs.guarded.reaches_on.Tie as tie
@@ -18,15 +17,12 @@ mul-if1-2 c = search needs
 returns : tie.Need-returns
 returns c = λ e. absurd (true≢false (sym e))
 
+is-inland-requires : tie.Need-is-inland-requires
+is-inland-requires c κs = search needs
+
 returns-2 : tie.Need-returns-2
-returns-2 c = λ e. (c .before .if1 .left, λ f. absurd (true≢false (sym (c .if2 .taken) ∙ f)))
-
-is-low-requires : tie.Need-is-low-requires
-is-low-requires c κs = search needs
-
-returns-3 : tie.Need-returns-3
-returns-3 c = λ e. (c .before .before .if1 .left, λ f. sym (c .is-low .ensures) ∙ not-true _ e)
+returns-2 c = λ e. (c .before .if1 .left, c .is-inland .ensures e)
 
 pub reaches-on-spec : {M : Type 1} → statement M
 reaches-on-spec =
-    tie.close (tie.spec mul-if1 add-if1 mul-if1-2 returns returns-2 is-low-requires returns-3)
+    tie.close (tie.spec mul-if1 add-if1 mul-if1-2 returns is-inland-requires returns-2)
