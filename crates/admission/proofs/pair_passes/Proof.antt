@@ -3,7 +3,6 @@ use mathlib.Core.Bool.{false≢true}
 use borrow.Author.Tests.{le-leb}
 use Rattle.checks.specs.Check.{modeHolds}
 use Rattle.checks.proofs.Passing.{pair-passes}
-use borrow.Author.Needs.{needs}
 use Rattle.admission.proofs.pair_passes.Statement.{statement}
 use Rattle.admission.proofs.pair_passes.Tie as tie
 
