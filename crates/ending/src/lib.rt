@@ -38,7 +38,7 @@ fn clear_low(target: &mut [u64], n: usize)
 }
 
 // Whether something stands below the guard.
-fn holds_more(tail: Tail) -> bool
+pub fn holds_more(tail: Tail) -> bool
     ensures { λ r. ⌜ ((t q : ℕ) → TailIs tail t q → r ≡ not (eqb q 0)) ⌝ }
 {
     match tail {

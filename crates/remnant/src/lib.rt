@@ -7,3 +7,4 @@ pub use digits::digits_of;
 pub use ones::ones_first;
 pub use rest::Rest;
 pub use rest::rest_of;
+pub use rest::word_rest;

@@ -74,7 +74,7 @@ fn bit_above(word: u64, bits: u64, next: bool) -> bool
 }
 
 // The low `bits` bits of a word, 1 to 64 of them; `next` holds the digit above where the word has none.
-fn word_rest(word: u64, bits: u64, next: bool) -> Rest
+pub fn word_rest(word: u64, bits: u64, next: bool) -> Rest
     requires { ⌜ (0 < bits) × (bits ≤ 64) ⌝ }
     ensures { λ r. ⌜ ((h : ℕ) → next ≡ eqb (h % 2) 1 → RestAt (h * 2 ^ 64 + word) bits r) ⌝ }
 {

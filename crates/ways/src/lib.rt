@@ -7,8 +7,9 @@ ghost use Rattle.numbers.specs.Operand.{Operand, WellFormed};
 ghost use Rattle.rounding.specs.Mode.{modeOf};
 ghost use Rattle.checks.specs.Number.{operandOf};
 ghost use Rattle.descent.specs.Ready.{Room};
-ghost use Rattle.wide.specs.Filling.{Holding, Offered};
+ghost use Rattle.wide.specs.Filling.{Holding, Offered, FillsBy};
 ghost use Rattle.wide.specs.Attempted.{Attempted};
+ghost use Rattle.deep.specs.Deep.{Deep};
 use checks::Number;
 use choice::either;
 use choice::either_run;
@@ -17,6 +18,7 @@ use choice::is_level;
 use choice::is_second_larger;
 use settle::Pair;
 use wide::Attempt;
+use wide::Filled;
 use wide::nothing;
 
 // Whether two numbers have one exponent, and each as many limbs as the target.
@@ -63,6 +65,36 @@ fn exchanged_if(swapped: bool, r: Attempt) -> Attempt
     }
 }
 
+// Whether one limb holds the digits asked for with two to spare, and both operands begin in the first column and have more than a digit below it.
+fn is_deep(p: u64, pair: Pair) -> bool
+    requires { ⌜ pair .gap + pair .second < 2 ^ 64 ⌝ }
+    ensures { λ r. ⌜ (r ≡ true → (p ≤ 62) × Deep pair) ⌝ }
+{
+    (p <= 62) & (pair.gap < 64) & (65 < pair.first) & (65 < pair.gap + pair.second)
+}
+
+// Fills the target, in the way that may fix the answer.
+fn fill(
+    mode: u8,
+    negative: bool,
+    p: u64,
+    pair: Pair,
+    first: &[u64],
+    second: &[u64],
+    target: &mut [u64],
+) -> Filled
+    requires { ⌜ Room p (length (now target)) × Offered pair (now first) (now second) ⌝ }
+    ensures { λ r. ⌜ (length (now (target .exit)) ≡ length (now (target .entry))) × FillsBy (modeOf mode) negative p pair (now (first .entry)) (now (second .entry)) (now (target .exit)) r ⌝ }
+{
+    if is_deep(p, pair) {
+        let filled = deep::fill(mode, negative, p, pair, first, second, target);
+        if !filled.open {
+            return filled;
+        }
+    }
+    wide::fill(p, pair, first, second, target)
+}
+
 // Rounds what fills the target.
 fn round_filled(
     mode: u8,
@@ -77,7 +109,7 @@ fn round_filled(
     requires { ⌜ Room p (length (now target)) × Offered pair (now first) (now second) ⌝ }
     ensures { λ r. ⌜ (length (now (target .exit)) ≡ length (now (target .entry))) × (r .open ≡ false → (z w : Operand) → Holding z w pair (now (first .entry)) (now (second .entry)) → negative ≡ z .negative → Attempted (modeOf mode) p z w (now (target .exit)) (r .negative) (r .placed) (r .depth) (cond swapped (r .second) (r .first)) (cond swapped (r .first) (r .second))) ⌝ }
 {
-    let filled = wide::fill(p, pair, first, second, target);
+    let filled = fill(mode, negative, p, pair, first, second, target);
     if filled.open {
         return nothing();
     }

@@ -46,6 +46,14 @@ abbrev pub Fills : ℕ → Pair → List ℕ → List ℕ → List ℕ → Fille
 Fills p pair first second exit r =
     r .open ≡ false → (o : Mode) (x y : Operand) → Holding x y pair first second → Rounds o p x y exit (r .carry) (r .guard) (r .more) (r .depth)
 
+-- the same under one mode, of a sum of that sign; how many columns fix it, and that it has a first digit, hold under any
+abbrev pub FillsBy : Mode → Bool → ℕ → Pair → List ℕ → List ℕ → List ℕ → Filled → Type 0
+FillsBy o negative p pair first second exit r =
+    r .open ≡ false
+    → (r .depth ≤ deepest)
+    × (r .carry ≡ false → 0 < getD exit (length exit - 1) 0)
+    × ((x y : Operand) → Holding x y pair first second → negative ≡ x .negative → Rounds o p x y exit (r .carry) (r .guard) (r .more) (r .depth))
+
 -- the columns that fill the target are read, and their carry
 pub record Promptly (pair : Pair) (first second before after : List ℕ) (w : Window) (carry : Bool) : Type 0 where
   pub prompt : Prompt pair (length first) (length second) 0 (length before)
