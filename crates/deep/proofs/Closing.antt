@@ -8,6 +8,7 @@ use native.Mathlib.Nat.{mod-lt, mod-eq-of-lt, mul-add-mod-self-right, mul-le-mul
 use native.Mathlib.Omega.{arith}
 use borrow.Author.Tests.{eq-eqb, ne-eqb}
 use lib.Dec.{eqb}
+use lib.ListN.{length, getD}
 use lib.Pow.{pow-add, pow-pos, mod-pow-add}
 use lib.Ieee.{size}
 use Rattle.limb.specs.Value.{valueIn}
@@ -41,8 +42,9 @@ use Rattle.descent.proofs.Inside.{inside-plus, inside-minus}
 use Rattle.ending.proofs.RegularEnd.{deep-enough}
 use Rattle.front.specs.declared.showing.Front.{Front}
 use Rattle.front.specs.Front.{firstOf, ShowsFront}
-use Rattle.wide.specs.Filling.{Holding}
-use Rattle.deep.specs.Reading.{innerRow, Ends}
+use Rattle.wide.specs.declared.filling.Filled.{Filled}
+use Rattle.wide.specs.Filling.{Holding, Rounds}
+use Rattle.deep.specs.Reading.{innerRow, Ends, Stored}
 
 -- the answer is fixed by k columns, and it is the first of them, rounded; `more` says whether anything lies below it
 abbrev pub RoundsFirst : Mode → ℕ → Operand → Operand → ℕ → Front → Bool → Type 0
@@ -229,3 +231,21 @@ first-rounds o p P x y pair first second h front is long row s =
   where
     whole : (n : ℕ) → n ≡ n * 2 ^ (64 * (1 - 1)) + 0
     whole n = omega arith
+
+-- ---- the first column in the target
+
+module _ (p : ℕ) (front : Front) (more : Bool) (depth : ℕ) (exit : List ℕ) (r : Filled) (s : Stored front more depth exit r) (long : p < size (firstOf front)) where
+  pub stored-led : r .carry ≡ false → 0 < getD exit (length exit - 1) 0
+  stored-led e = rw (s .limbs) (led p front long (sym (s .carry) ∙ e))
+
+  pub stored-rounds : (o : Mode) (x y : Operand) → 1 ≤ depth → depth ≤ deepest → (1 < depth → decideAt o p x y (depth - 1) ≡ false) → RoundsFirst o p x y depth front (r .more) → Rounds o p x y exit (r .carry) (r .guard) (r .more) (r .depth)
+  stored-rounds o x y some near undecided rounds =
+      rw (s .limbs, s .carry, s .guard, s .depth-is)
+      (record {
+        some = some;
+        near = near;
+        fixed = rounds .0;
+        first = undecided;
+        answer = rounds .1;
+        led = led p front long;
+      })
