@@ -15,7 +15,7 @@ use Rattle.limb.specs.Carry.{bit}
 use Rattle.rounding.proofs.Order.{le-or-lt, sub-mul}
 use Rattle.twolimbs.specs.Two.{headIn}
 use Rattle.twolimbs.specs.declared.Head.{Head}
-use Rattle.aligned.specs.Few.{Few, Differs}
+use Rattle.aligned.specs.Few.{Few, AbsoluteDifference}
 
 -- ---- one limb, or two
 
@@ -124,8 +124,8 @@ module _ (x y f g : Head) (s : Bool) (lx : x .low < 2 ^ 64) (ly : y .low < 2 ^ 6
     other true = ex
     other false = second-top
 
-    pub differs : (high low : ℕ) → headIn (2 ^ 64) false high low ≡ worth f - worth g → Differs a b (record { swapped = s; high = high; low = low })
-    differs high low d =
+    pub absolute-difference : (high low : ℕ) → headIn (2 ^ 64) false high low ≡ worth f - worth g → AbsoluteDifference a b (record { swapped = s; high = high; low = low })
+    absolute-difference high low d =
         let e : worth f ≡ valueOf (cond s b a) * P = ap worth fe ∙ larger s in
         let h : worth g ≡ valueOf (cond s a b) * P = ap worth ge ∙ other s in
         record { order = le-of-mul-le-mul-right (rw (← e, ← h) in-order) (pow-pos (64 * (2 - length a))); worth = d ∙ rw (e, h) (sym (sub-mul (valueOf (cond s b a)) (valueOf (cond s a b)) P)) }

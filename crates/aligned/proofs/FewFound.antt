@@ -28,7 +28,7 @@ use Rattle.ending.proofs.Handed.{beq-turned}
 use Rattle.ending.proofs.RegularEnd.{deep-enough}
 use Rattle.wide.specs.Attempted.{Attempted}
 use Rattle.aligned.specs.Aligned.{Aligned, Cancelling}
-use Rattle.aligned.specs.Few.{Few, Differs}
+use Rattle.aligned.specs.Few.{Few, AbsoluteDifference}
 use Rattle.aligned.specs.declared.few.Apart.{Apart}
 use Rattle.aligned.proofs.Parting.{Parted, Parts, parts, unlike-told}
 use Rattle.aligned.proofs.Stands.{aligned-turned, covered-parted}
@@ -36,9 +36,9 @@ use Rattle.aligned.proofs.ExactDifference.{exact-told}
 use Rattle.aligned.proofs.AsFound.{either-limbs, either-few, sign-kept, difference-told}
 
 -- a difference is some where one of its limbs is
-pub differs-some : (high low : ℕ) → (eqb high 0 && eqb low 0) ≡ false → 0 < headIn (2 ^ 64) false high low
+pub difference-some : (high low : ℕ) → (eqb high 0 && eqb low 0) ≡ false → 0 < headIn (2 ^ 64) false high low
 unfolding headIn bit
-differs-some high low e = elim (le-or-lt low 0) [
+difference-some high low e = elim (le-or-lt low 0) [
   | inr l ↦ lower (2 ^ 64) l
   | inl l ↦ elim (le-or-lt high 0) [ inr h ↦ upper (2 ^ 64) (mul-pos h (pow-pos 64)) | inl h ↦ absurd (true-false (and-both (eq-eqb high 0 (omega arith)) (eq-eqb low 0 (omega arith))) e) ]
 ]
@@ -50,9 +50,9 @@ differs-some high low e = elim (le-or-lt low 0) [
     upper B l = omega arith
 
 -- where neither is, the runs are worth the same
-pub differs-none : (a b : List ℕ) (d : Apart) → Differs a b d → (eqb (d .high) 0 && eqb (d .low) 0) ≡ true → valueOf b ≡ valueOf a
+pub difference-none : (a b : List ℕ) (d : Apart) → AbsoluteDifference a b d → (eqb (d .high) 0 && eqb (d .low) 0) ≡ true → valueOf b ≡ valueOf a
 unfolding headIn bit
-differs-none a b d t e = level (d .swapped) (t .order) (eqb-true _ 0 (sym (zero-times _ _ (pow-pos (64 * (2 - length a)))) ∙ eq-eqb _ 0 (sym (t .worth) ∙ empty (2 ^ 64))))
+difference-none a b d t e = level (d .swapped) (t .order) (eqb-true _ 0 (sym (zero-times _ _ (pow-pos (64 * (2 - length a)))) ∙ eq-eqb _ 0 (sym (t .worth) ∙ empty (2 ^ 64))))
   where
     limbs : (eqb (d .high) 0 ≡ true) × (eqb (d .low) 0 ≡ true)
     limbs = both-true (eqb (d .high) 0) (eqb (d .low) 0) e
@@ -77,17 +77,17 @@ unfolding operandOf
 lengths-told x xl y yl n f a = (subst Few (sym (a .first-limbs)) f, a .second-limbs ∙ sym (a .first-limbs))
 
 -- operands of unlike signs of which no limbs differ cancel
-pub few-cancels : (x : Number) (xl : List ℕ) (y : Number) (yl : List ℕ) (n : ℕ) → Aligned (operandOf x xl) (operandOf y yl) n → Bool·beq (x .negative) (y .negative) ≡ false → (d : Apart) → Differs xl yl d → (eqb (d .high) 0 && eqb (d .low) 0) ≡ true
+pub few-cancels : (x : Number) (xl : List ℕ) (y : Number) (yl : List ℕ) (n : ℕ) → Aligned (operandOf x xl) (operandOf y yl) n → Bool·beq (x .negative) (y .negative) ≡ false → (d : Apart) → AbsoluteDifference xl yl d → (eqb (d .high) 0 && eqb (d .low) 0) ≡ true
     → Cancelling (operandOf x xl) (operandOf y yl) n
 unfolding operandOf
-few-cancels x xl y yl n a unlike d t e = record { aligned = a; unlike = unlike; level = differs-none xl yl d t e }
+few-cancels x xl y yl n a unlike d t e = record { aligned = a; unlike = unlike; level = difference-none xl yl d t e }
 
 -- the exponent of an operand leaves room for two columns
 pub columns-two : (x y : Operand) (n top : ℕ) → Aligned x y n → top ≡ x .exponent → 128 ≤ top
 columns-two x y n top a e = omega (arith, columns-above x (a .first) (a .first-regular) 2 (omega (arith, deep-enough)))
 
 module _ (x : Number) (xl : List ℕ) (y : Number) (yl : List ℕ) (before : List ℕ) (top : ℕ) (a : Aligned (operandOf x xl) (operandOf y yl) (length before)) (unlike : Bool·beq (x .negative) (y .negative) ≡ false) (top-is : top ≡ operandOf x xl .exponent)
-    (d : Apart) (t : Differs xl yl d) (some : 0 < headIn (2 ^ 64) false (d .high) (d .low)) where
+    (d : Apart) (t : AbsoluteDifference xl yl d) (some : 0 < headIn (2 ^ 64) false (d .high) (d .low)) where
   abbrev n : ℕ
   n = length before
 

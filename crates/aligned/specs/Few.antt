@@ -13,6 +13,6 @@ abbrev pub Few : ℕ → Type 0
 Few n = (0 < n) × (n ≤ 2)
 
 -- of two runs the larger less the other, at the top of two limbs
-pub record Differs (a b : List ℕ) (r : Apart) : Type 0 where
+pub record AbsoluteDifference (a b : List ℕ) (r : Apart) : Type 0 where
   pub order : valueOf (cond (r .swapped) a b) ≤ valueOf (cond (r .swapped) b a)
   pub worth : headIn (2 ^ 64) false (r .high) (r .low) ≡ (valueOf (cond (r .swapped) b a) - valueOf (cond (r .swapped) a b)) * 2 ^ (64 * (2 - length a))

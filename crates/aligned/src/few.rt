@@ -16,7 +16,7 @@ ghost use Rattle.twolimbs.specs.Two.{headIn};
 ghost use Rattle.descent.specs.Ready.{Room};
 ghost use Rattle.wide.specs.Attempted.{Attempted};
 ghost use Rattle.aligned.specs.Aligned.{Aligned};
-ghost use Rattle.aligned.specs.Few.{Few, Differs};
+ghost use Rattle.aligned.specs.Few.{Few, AbsoluteDifference};
 use crate::cancelled;
 use checks::Number;
 use place::Placed;
@@ -60,7 +60,7 @@ struct Apart {
 // The difference of two runs of one length.
 fn difference(a: &[u64], b: &[u64]) -> Apart
     requires { ⌜ Few (length (now a)) × (length (now b) ≡ length (now a)) ⌝ }
-    ensures { λ r. ⌜ Differs (now (a .entry)) (now (b .entry)) r ⌝ }
+    ensures { λ r. ⌜ AbsoluteDifference (now (a .entry)) (now (b .entry)) r ⌝ }
 {
     let x = at_top(a);
     let y = at_top(b);

@@ -112,13 +112,13 @@ module _ (p : ℕ) (pair : Pair) (first before : List ℕ) (a : Alone p pair fir
     kept = room-kept _ _ _ size (a .room)
 
     pub far-unit : 64 * (length after + 1) ≤ pair .top
-    far-unit = unit-room 0 p pair first second after (runOf n guard) kept fills refl x (a .offered .other) h
+    far-unit = unit-room p (length after) kept pair first second x (a .offered .other) h
 
     pub far-fit : runRule p false after (pair .top - 64 * (length after + 1)) ≡ 0
-    far-fit = fit 0 p pair first second after (runOf n guard) kept fills refl x (a .offered .other) h
+    far-fit = fit p pair first second after kept x (a .offered .other) h false (fills refl (modeOf 0) x (a .offered .other) h .led)
 
     pub far-told : (mode : ℕ) (negative : Bool) (z w : Operand) → Holding z w pair first second → negative ≡ z .negative → (swapped : Bool) {exit : List ℕ} {placed : Placed} {i j : ℕ}
         → placed ≡ roundedPlaced mode p negative (pair .top - 64 * (length after + 1)) false after guard true → exit ≡ roundedLimbs mode p negative (pair .top - 64 * (length after + 1)) false after guard true
         → i ≡ cond swapped 0 n → j ≡ cond swapped n 0 → Attempted (modeOf mode) p z w exit negative placed n (cond swapped j i) (cond swapped i j)
     far-told mode negative z w g sign swapped c d e f =
-        in-order-told mode p pair first second after (runOf n guard) kept fills refl z w g negative sign c d (used-in-order swapped e f (used-far n (pair .gap) (length first) (length second) (room-some p n (a .room)) (a .long) (a .below)))
+        in-order-told p pair first second after kept z w g mode (runOf n guard) (fills refl (modeOf mode) z w g) negative sign c d (used-in-order swapped e f (used-far n (pair .gap) (length first) (length second) (room-some p n (a .room)) (a .long) (a .below)))

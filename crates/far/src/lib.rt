@@ -40,7 +40,7 @@ fn fill(same: bool, first: &[u64], target: &mut [u64]) -> u64
 }
 
 // Rounds the first operand and a little more, or a little less: its limbs, or one less, and a guard.
-fn round_filled(
+fn round_beside(
     mode: u8,
     negative: bool,
     p: u64,
@@ -104,7 +104,7 @@ fn round(mode: u8, negative: bool, p: u64, pair: Pair, first: &[u64], target: &m
     if is_kept(mode, negative, p, pair) {
         return round_kept(mode, negative, p, pair, first, target);
     }
-    round_filled(mode, negative, p, pair, first, target)
+    round_beside(mode, negative, p, pair, first, target)
 }
 
 // Adds two such numbers, where no refusal is near.

@@ -20,8 +20,10 @@ use Rattle.settle.specs.declared.rows.Pair.{Pair}
 use Rattle.descent.specs.Ready.{Room}
 use Rattle.wide.specs.Filling.{Holding, Offered}
 use Rattle.wide.specs.Attempted.{Attempted}
+use Rattle.wide.proofs.FullTarget.{offered-modest}
 use Rattle.wide.proofs.InHollow.{sum-fits}
 use Rattle.wide.proofs.InOrder.{limbs-weigh}
+use Rattle.deep.specs.Deep.{Deep}
 
 -- ---- what the tests tell
 
@@ -59,6 +61,16 @@ far-asked p n room = (sum-fits p n room, less n (limbs-weigh p n room))
   where
     less : (m : ℕ) → 64 * (m + 1) < 2 ^ 64 → 64 * m < 2 ^ 64
     less m h = omega arith
+
+pub deep-told : (p : ℕ) (pair : Pair) → (((leb p 62 && ltb (pair .gap) 64) && ltb 65 (pair .first)) && ltb 65 (pair .gap + pair .second)) ≡ true → (p ≤ 62) × Deep pair
+deep-told p pair h =
+    let a = both-true ((leb p 62 && ltb (pair .gap) 64) && ltb 65 (pair .first)) (ltb 65 (pair .gap + pair .second)) h in
+    let b = both-true (leb p 62 && ltb (pair .gap) 64) (ltb 65 (pair .first)) (a .0) in
+    let c = both-true (leb p 62) (ltb (pair .gap) 64) (b .0) in
+    (leb-true p 62 (c .0), record { gap = ltb-true (pair .gap) 64 (c .1); first = ltb-true 65 (pair .first) (b .1); second = ltb-true 65 (pair .gap + pair .second) (a .1) })
+
+pub deep-asked : (p n : ℕ) (pair : Pair) (first second : List ℕ) → Room p n → Offered pair first second → pair .gap + pair .second < 2 ^ 64
+deep-asked p n pair first second room held = let m = offered-modest p pair first second held n 0 room (omega arith) in omega (arith, m .gap, m .second)
 
 -- ---- in either order
 

@@ -6,7 +6,7 @@ use mathlib.Core.List.{List}
 use Prim.Native.Nat.{ℕ, _+_, _-_, _*_, _^_, _≤_, _<_}
 use native.Mathlib.Omega.{arith}
 use borrow.Author.Tests.{lt-ltb, le-ltb, le-leb, eq-eqb, eqb-true, ltb-true}
-use lib.Dec.{ltb, eqb}
+use lib.Dec.{leb, ltb, eqb}
 use lib.ListN.{length, getD}
 use Rattle.descent.proofs.JudgingRange.{digits-some}
 use Rattle.depth.proofs.Exchange.{top-exchange, deciding-exchange}
@@ -18,6 +18,7 @@ use Rattle.rounding.specs.Answer.{Answer, rounded}
 use Rattle.rounding.specs.Sum.{add}
 use Rattle.rounding.proofs.Order.{le-or-lt}
 use Rattle.rounding.proofs.Zeros.{add-commutes}
+use Rattle.depth.specs.Bound.{deepest}
 use Rattle.depth.specs.Columns.{topExponent, limbsUsed}
 use Rattle.decide.proofs.Decision.{depth-decided}
 use Rattle.checks.specs.declared.Number.{Number}
@@ -40,7 +41,7 @@ use Rattle.reports.specs.Signed.{Signed}
 use Rattle.ending.proofs.RegularEnd.{deep-enough, not-deep, rounded-signed}
 use Rattle.ending.proofs.Handed.{ordered-pair, beq-turned, top-first, course-first}
 use Rattle.wide.specs.declared.filling.Filled.{Filled}
-use Rattle.wide.specs.Filling.{Holding, Offered, Rounds, Fills}
+use Rattle.wide.specs.Filling.{Holding, Offered, Rounds, Fills, FillsBy}
 use Rattle.reports.specs.Counts.{usedOf}
 use Rattle.reports.proofs.Counts.{used-is}
 use Rattle.wide.specs.Attempted.{Attempted}
@@ -170,63 +171,76 @@ attempted-told o p m room x y r e false exit n placed k i j t = t
 
 -- ---- what fills the target is rounded
 
-module _ (mode p : ℕ) (pair : Pair) (first second t : List ℕ) (f : Filled) (room : Room p (length t)) (fills : Fills p pair first second t f) (closed : f .open ≡ false)
-    (z w : Operand) (h : Holding z w pair first second) where
-  abbrev o : Mode
-  o = modeOf mode
+-- what fills it under any mode does so under each
+pub fills-by : (o : Mode) (negative : Bool) (p : ℕ) (pair : Pair) (first second exit : List ℕ) (r : Filled) → Fills p pair first second exit r → Offered pair first second → FillsBy o negative p pair first second exit r
+fills-by o negative p pair first second exit r fills held closed =
+    let rounds = fills closed o (held .larger) (held .other) (held .holding) in
+    (rounds .near, rounds .led, λ z w h sign. fills closed o z w h)
 
-  abbrev unit : ℕ
-  unit = pair .top - 64 * (length t + 1)
+pub few : {depth : ℕ} → depth ≤ deepest → depth ≤ 2 ^ 20
+few near = omega (arith, near, not-deep)
 
+-- below the first operand's exponent there is a place for the columns of the target and one more
+module _ (p n : ℕ) (room : Room p n) (pair : Pair) (first second : List ℕ) (z w : Operand) (h : Holding z w pair first second) where
   abbrev d : Ordered z w
   d = h .course .ordered
-
-  rounds : Rounds o p z w t (f .carry) (f .guard) (f .more) (f .depth)
-  rounds = fills closed o z w h
 
   top-told : pair .top ≡ z .exponent
   top-told = ap (λ (s : Pair). s .top) (h .pair-is) ∙ pair-top z w
 
-  above : 64 * (length t + 1) + 1 ≤ z .exponent
+  above : 64 * (n + 1) + 1 ≤ z .exponent
   unfolding limbsFor mostPrecision
-  above = columns-above z (d .first) (d .regular) (length t + 1) (omega (arith, room .count, room .most, deep-enough))
+  above = columns-above z (d .first) (d .regular) (n + 1) (omega (arith, room .count, room .most, deep-enough))
 
-  pub unit-room : 64 * (length t + 1) ≤ pair .top
+  pub unit-room : 64 * (n + 1) ≤ pair .top
   unit-room = omega (arith, above, top-told)
 
-  pub few : f .depth ≤ 2 ^ 20
-  few = omega (arith, rounds .near, not-deep)
-
-  pub fit : runRule p (f .carry) t unit ≡ 0
-  fit = sym (rule-none p (f .carry) t unit (rw (le-leb leastPrecision p (room .least), le-leb p mostPrecision (room .most)) refl) (eq-eqb (length t) (limbsFor p) (room .count)) (rw (lt-ltb 0 unit positive, le-leb unit (2 * mostExponent) near) refl) (led (f .carry) refl))
+  unit-fits : (ltb 0 (pair .top - 64 * (n + 1)) && leb (pair .top - 64 * (n + 1)) (2 * mostExponent)) ≡ true
+  unit-fits = rw (lt-ltb 0 (pair .top - 64 * (n + 1)) positive, le-leb (pair .top - 64 * (n + 1)) (2 * mostExponent) near) refl
     where
-      positive : 0 < unit
+      positive : 0 < pair .top - 64 * (n + 1)
       positive = omega (arith, above, top-told)
 
-      near : unit ≤ 2 * mostExponent
+      near : pair .top - 64 * (n + 1) ≤ 2 * mostExponent
       near = omega (arith, d .first .regular (d .regular) .most, top-told)
 
-      led : (c : Bool) → f .carry ≡ c → (c || ltb 0 (getD t (length t - 1) 0)) ≡ true
-      led true e = refl
-      led false e = lt-ltb 0 (getD t (length t - 1) 0) (rounds .led e)
+module _ (p : ℕ) (pair : Pair) (first second t : List ℕ) (room : Room p (length t)) (z w : Operand) (h : Holding z w pair first second) where
+  abbrev unit : ℕ
+  unit = pair .top - 64 * (length t + 1)
 
-  module _ (negative : Bool) (sign : negative ≡ z .negative) where
+  pub fit : (carry : Bool) → (carry ≡ false → 0 < getD t (length t - 1) 0) → runRule p carry t unit ≡ 0
+  fit carry led = sym (rule-none p carry t unit (rw (le-leb leastPrecision p (room .least), le-leb p mostPrecision (room .most)) refl) (eq-eqb (length t) (limbsFor p) (room .count)) (unit-fits p (length t) room pair first second z w h) (digit carry refl))
+    where
+      digit : (c : Bool) → carry ≡ c → (c || ltb 0 (getD t (length t - 1) 0)) ≡ true
+      digit true e = refl
+      digit false e = lt-ltb 0 (getD t (length t - 1) 0) (led e)
+
+  module _ (mode : ℕ) (f : Filled) (rounds : Rounds (modeOf mode) p z w t (f .carry) (f .guard) (f .more) (f .depth)) (negative : Bool) (sign : negative ≡ z .negative) where
+    abbrev o : Mode
+    o = modeOf mode
+
+    abbrev in-order : Ordered z w
+    in-order = h .course .ordered
+
+    fits : runRule p (f .carry) t unit ≡ 0
+    fits = fit (f .carry) (rounds .led)
+
     run-is : runAnswer mode p negative unit (runNumber (f .carry) t (f .guard) (f .more)) ≡ add o p z w
     unfolding runAnswer
-    run-is = rw (sign, top-told) (sym (rounds .answer))
+    run-is = rw (sign, top-told p (length t) room pair first second z w h) (sym (rounds .answer))
 
     pub in-order-told : {exit : List ℕ} {placed : Placed} {i j : ℕ} → placed ≡ roundedPlaced mode p negative unit (f .carry) t (f .guard) (f .more) → exit ≡ roundedLimbs mode p negative unit (f .carry) t (f .guard) (f .more)
         → (i ≡ usedOf (f .depth) 0 (length first)) × (j ≡ usedOf (f .depth) (pair .gap) (length second)) → Attempted o p z w exit negative placed (f .depth) i j
     in-order-told {exit} {placed} {i} {j} a b c =
         let P = digits-some p (length t) room in
-        let top : topExponent z w ≡ z .exponent = top-is o p P z w 1 d (omega arith) in
+        let top : topExponent z w ≡ z .exponent = top-is o p P z w 1 in-order (omega arith) in
         record {
-          decides = record { zeros = λ e. absurd (true≢false (sym e ∙ rw (d .regular) refl)); deciding = λ e. depth-decided o p P z w (d .first) (d .second) (f .depth) (rounds .some) (rounds .fixed) (rounds .first) };
+          decides = record { zeros = λ e. absurd (true≢false (sym e ∙ rw (in-order .regular) refl)); deciding = λ e. depth-decided o p P z w (in-order .first) (in-order .second) (f .depth) (rounds .some) (rounds .fixed) (rounds .first) };
           bounded = rounds .near;
-          left = record { told = a ∙ placed-passed mode p negative unit (f .carry) t (f .guard) (f .more) fit ∙ ap placedOf run-is; limbs = b ∙ limbs-passed mode p negative unit (f .carry) t (f .guard) (f .more) fit ∙ ap (limbsAfter p) run-is };
+          left = record { told = a ∙ placed-passed mode p negative unit (f .carry) t (f .guard) (f .more) fits ∙ ap placedOf run-is; limbs = b ∙ limbs-passed mode p negative unit (f .carry) t (f .guard) (f .more) fits ∙ ap (limbsAfter p) run-is };
           signed = rw (sign, rounds .answer) (rounded-signed _ _ _ _ _);
-          first-used = c .0 ∙ ap (λ (l : List ℕ). usedOf (f .depth) 0 (length l)) (h .first-is) ∙ used-is z (topExponent z w) (f .depth) 0 (d .first) (d .regular) (rw top (apart (z .exponent)));
-          second-used = c .1 ∙ ap (λ (l : List ℕ). usedOf (f .depth) (pair .gap) (length l)) (h .second-is) ∙ used-is w (topExponent z w) (f .depth) (pair .gap) (d .second) (h .regular) (rw top (ap (λ (s : Pair). s .gap) (h .pair-is) ∙ pair-gap z w (h .regular)));
+          first-used = c .0 ∙ ap (λ (l : List ℕ). usedOf (f .depth) 0 (length l)) (h .first-is) ∙ used-is z (topExponent z w) (f .depth) 0 (in-order .first) (in-order .regular) (rw top (apart (z .exponent)));
+          second-used = c .1 ∙ ap (λ (l : List ℕ). usedOf (f .depth) (pair .gap) (length l)) (h .second-is) ∙ used-is w (topExponent z w) (f .depth) (pair .gap) (in-order .second) (h .regular) (rw top (ap (λ (s : Pair). s .gap) (h .pair-is) ∙ pair-gap z w (h .regular)));
         }
       where
         apart : (n : ℕ) → 0 ≡ n - n

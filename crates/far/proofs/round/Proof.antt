@@ -18,8 +18,8 @@ same-length c = search needs
 returns : tie.Need-returns
 returns c = search needs
 
-round-filled-requires : tie.Need-round-filled-requires
-round-filled-requires c κs = search needs
+round-beside-requires : tie.Need-round-beside-requires
+round-beside-requires c κs = search needs
 
 same-length-2 : tie.Need-same-length-2
 same-length-2 c = search needs
@@ -35,6 +35,6 @@ round-spec =
     round-kept-requires
     same-length
     returns
-    round-filled-requires
+    round-beside-requires
     same-length-2
     returns-2)

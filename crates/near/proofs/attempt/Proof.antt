@@ -2,6 +2,7 @@
 use mathlib.Core.Path.{sym, _∙_}
 use mathlib.Core.Bool.{true≢false}
 use native.Mathlib.Omega.{arith}
+use Rattle.rounding.specs.Mode.{modeOf}
 use Rattle.descent.proofs.GoingDown.{room-kept, room-some}
 use Rattle.wide.proofs.InOrder.{limbs-weigh, unit-room, fit, in-order-told}
 use Rattle.near.proofs.Alongside.{all-used}
@@ -28,10 +29,10 @@ mul-round-fit : tie.Need-mul-round-fit
 mul-round-fit c = let s = c .before .before .before .before .before .before .before .before .before in let w = limbs-weigh (s .args .p) _ (room-kept _ _ _ (c .before .before .before .before .fill .ensures .0) (s .pre .0)) in omega arith
 
 sub-round-fit : tie.Need-sub-round-fit
-sub-round-fit c = let s = c .before .before .before .before .before .before .before .before .before .before in let f = c .before .before .before .before .before .fill .ensures in unit-room (s .args .mode) (s .args .p) _ _ _ _ _ (room-kept _ _ _ (f .0) (s .pre .0)) (f .1) (c .before .before .if1 .left) _ _ (s .pre .1 .holding)
+sub-round-fit c = let s = c .before .before .before .before .before .before .before .before .before .before in let f = c .before .before .before .before .before .fill .ensures in unit-room (s .args .p) _ (room-kept _ _ _ (f .0) (s .pre .0)) _ _ _ _ _ (s .pre .1 .holding)
 
 round-fit-requires : tie.Need-round-fit-requires
-round-fit-requires c κs = let s = c .before .before .before .before .before .before .before .before .before .before in let f = c .before .before .before .before .before .fill .ensures in fit (s .args .mode) (s .args .p) _ _ _ _ _ (room-kept _ _ _ (f .0) (s .pre .0)) (f .1) (c .before .before .if1 .left) _ _ (s .pre .1 .holding)
+round-fit-requires c κs = let s = c .before .before .before .before .before .before .before .before .before .before in let f = c .before .before .before .before .before .fill .ensures in fit (s .args .p) _ _ _ _ (room-kept _ _ _ (f .0) (s .pre .0)) _ _ (s .pre .1 .holding) _ (f .1 (c .before .before .if1 .left) (modeOf (s .args .mode)) _ _ (s .pre .1 .holding) .led)
 
 same-length-2 : tie.Need-same-length-2
 same-length-2 c = search needs
@@ -43,7 +44,7 @@ returns-2 c =
     let closed = c .before .before .before .before .before .if1 .left in
     let some = room-some _ _ (s .pre .0) in (
       c .before .target2 .given ∙ f .0,
-      λ e z w h sign. in-order-told (s .args .mode) (s .args .p) _ _ _ _ _ (room-kept _ _ _ (f .0) (s .pre .0)) (f .1) closed _ _ h _ sign (c .before .before .round-fit .ensures .0) (c .before .before .round-fit .ensures .1)
+      λ e z w h sign. in-order-told (s .args .p) _ _ _ _ (room-kept _ _ _ (f .0) (s .pre .0)) _ _ h (s .args .mode) (c .before .before .before .before .before .before .before .before .fill .result) (f .1 closed _ _ _ h) _ sign (c .before .before .round-fit .ensures .0) (c .before .before .round-fit .ensures .1)
           (all-used _ 0 _ _ (s .args .first .now) (omega arith) some (f .2 closed) (f .0) (s .pre .2), all-used _ _ _ _ (s .args .second .now) (s .pre .5) some (f .2 closed) (f .0) (s .pre .3)),
     )
 

@@ -28,16 +28,16 @@ mul-round-fit : tie.Need-mul-round-fit
 mul-round-fit c = let w = limbs-weigh (c .before .before .before .before .before .before .before .before .before .args .p) _ (room-kept _ _ _ (c .before .before .before .target .given) (c .before .before .before .before .before .before .before .before .before .pre .0)) in omega arith
 
 sub-round-fit : tie.Need-sub-round-fit
-sub-round-fit c = unit-room (c .before .before .before .before .before .before .before .before .before .before .args .mode) (c .before .before .before .before .before .before .before .before .before .before .args .p) _ _ _ _ _ (room-kept _ _ _ (c .before .before .before .before .target .given) (c .before .before .before .before .before .before .before .before .before .before .pre .0)) (c .before .before .before .before .before .fill .ensures .1) (c .before .before .if1 .left) _ _ (c .before .before .before .before .before .before .before .before .before .before .pre .1 .holding)
+sub-round-fit c = let s = c .before .before .before .before .before .before .before .before .before .before in unit-room (s .args .p) _ (room-kept _ _ _ (c .before .before .before .before .target .given) (s .pre .0)) _ _ _ _ _ (s .pre .1 .holding)
 
 round-fit-requires : tie.Need-round-fit-requires
-round-fit-requires c κs = fit (c .before .before .before .before .before .before .before .before .before .before .args .mode) (c .before .before .before .before .before .before .before .before .before .before .args .p) _ _ _ _ _ (room-kept _ _ _ (c .before .before .before .before .target .given) (c .before .before .before .before .before .before .before .before .before .before .pre .0)) (c .before .before .before .before .before .fill .ensures .1) (c .before .before .if1 .left) _ _ (c .before .before .before .before .before .before .before .before .before .before .pre .1 .holding)
+round-fit-requires c κs = let s = c .before .before .before .before .before .before .before .before .before .before in let f = c .before .before .before .before .before .fill .ensures .1 (c .before .before .if1 .left) in fit (s .args .p) _ _ _ _ (room-kept _ _ _ (c .before .before .before .before .target .given) (s .pre .0)) _ _ (s .pre .1 .holding) _ (f .1)
 
 used-requires : tie.Need-used-requires
-used-requires c κs = few (c .before .before .before .before .before .before .before .before .before .before .before .before .before .args .mode) (c .before .before .before .before .before .before .before .before .before .before .before .before .before .args .p) _ _ _ _ _ (room-kept _ _ _ (c .before .before .before .before .before .before .before .target .given) (c .before .before .before .before .before .before .before .before .before .before .before .before .before .pre .0)) (c .before .before .before .before .before .before .before .before .fill .ensures .1) (c .before .before .before .before .before .if1 .left) _ _ (c .before .before .before .before .before .before .before .before .before .before .before .before .before .pre .1 .holding)
+used-requires c κs = few (c .before .before .before .before .before .before .before .before .fill .ensures .1 (c .before .before .before .before .before .if1 .left) .0)
 
 used-requires-2 : tie.Need-used-requires-2
-used-requires-2 c κs = few (c .before .before .before .before .before .before .before .before .before .before .before .before .before .before .args .mode) (c .before .before .before .before .before .before .before .before .before .before .before .before .before .before .args .p) _ _ _ _ _ (room-kept _ _ _ (c .before .before .before .before .before .before .before .before .target .given) (c .before .before .before .before .before .before .before .before .before .before .before .before .before .before .pre .0)) (c .before .before .before .before .before .before .before .before .before .fill .ensures .1) (c .before .before .before .before .before .before .if1 .left) _ _ (c .before .before .before .before .before .before .before .before .before .before .before .before .before .before .pre .1 .holding)
+used-requires-2 c κs = few (c .before .before .before .before .before .before .before .before .before .fill .ensures .1 (c .before .before .before .before .before .before .if1 .left) .0)
 
 either-requires : tie.Need-either-requires
 either-requires c κs = search needs
@@ -49,7 +49,15 @@ same-length-2 : tie.Need-same-length-2
 same-length-2 c = search needs
 
 returns-2 : tie.Need-returns-2
-returns-2 c = (c .before .before .before .before .before .target2 .given ∙ c .before .before .before .before .before .before .before .before .before .before .before .target .given, λ e z w h sign. in-order-told (c .before .before .before .before .before .before .before .before .before .before .before .before .before .before .before .before .before .args .mode) (c .before .before .before .before .before .before .before .before .before .before .before .before .before .before .before .before .before .args .p) _ _ _ _ _ (room-kept _ _ _ (c .before .before .before .before .before .before .before .before .before .before .before .target .given) (c .before .before .before .before .before .before .before .before .before .before .before .before .before .before .before .before .before .pre .0)) (c .before .before .before .before .before .before .before .before .before .before .before .before .fill .ensures .1) (c .before .before .before .before .before .before .before .before .before .if1 .left) _ _ h _ sign (c .before .before .before .before .before .before .round-fit .ensures .0) (c .before .before .before .before .before .before .round-fit .ensures .1) (counts-back (c .before .before .before .before .before .before .before .before .before .before .before .before .before .before .before .before .before .args .swapped) (c .before .either .ensures) (c .either2 .ensures) (c .before .before .before .used .ensures) (c .before .before .used2 .ensures)))
+returns-2 c =
+    let s = c .before .before .before .before .before .before .before .before .before .before .before .before .before .before .before .before .before in
+    let f = c .before .before .before .before .before .before .before .before .before .before .before .before .fill in
+    let size = c .before .before .before .before .before .before .before .before .before .before .before .target .given in
+    let r = c .before .before .before .before .before .before .round-fit .ensures in (
+      c .before .before .before .before .before .target2 .given ∙ size,
+      λ e z w h sign. in-order-told (s .args .p) _ _ _ _ (room-kept _ _ _ size (s .pre .0)) _ _ h (s .args .mode) (f .result) (f .ensures .1 (c .before .before .before .before .before .before .before .before .before .if1 .left) .2 _ _ h sign) _ sign (r .0) (r .1)
+          (counts-back (s .args .swapped) (c .before .either .ensures) (c .either2 .ensures) (c .before .before .before .used .ensures) (c .before .before .used2 .ensures)),
+    )
 
 pub round-filled-spec : {M : Type 1} → statement M
 round-filled-spec = tie.close (tie.spec fill-requires nothing-requires same-length returns add-round-fit mul-round-fit sub-round-fit round-fit-requires used-requires used-requires-2 either-requires either-requires-2 same-length-2 returns-2)

@@ -1,5 +1,5 @@
 -- `aligned::few::difference` is right since two limbs of each tell which is the larger. Assumes nothing.
-use Rattle.aligned.proofs.ByValue.{in-order, differs}
+use Rattle.aligned.proofs.ByValue.{in-order, absolute-difference}
 use borrow.Author.Needs.{needs}
 use Rattle.aligned.proofs.few.difference.Statement.{statement}
 use Rattle.aligned.proofs.few.difference.Tie as tie
@@ -31,7 +31,7 @@ returns c =
     let x = c .before .before .before .before .before .at-top in
     let y = c .before .before .before .before .at-top2 in
     let l = c .before .before .before .is-second-larger in
-    differs (x .result) (y .result) (c .before .before .either-head .result) (c .before .either-head2 .result) (l .result) (search needs) (search needs) (l .ensures) (c .before .before .either-head .ensures) (c .before .either-head2 .ensures) (s .args .a .now) (s .args .b .now) (s .pre .1) (x .ensures) (y .ensures) (c .difference .result .high) (c .difference .result .low) (c .difference .ensures .1)
+    absolute-difference (x .result) (y .result) (c .before .before .either-head .result) (c .before .either-head2 .result) (l .result) (search needs) (search needs) (l .ensures) (c .before .before .either-head .ensures) (c .before .either-head2 .ensures) (s .args .a .now) (s .args .b .now) (s .pre .1) (x .ensures) (y .ensures) (c .difference .result .high) (c .difference .result .low) (c .difference .ensures .1)
 
 pub difference-spec : {M : Type 1} → statement M
 difference-spec =

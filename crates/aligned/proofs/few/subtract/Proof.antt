@@ -4,7 +4,7 @@ use mathlib.Core.Bool.{true≢false}
 use native.Mathlib.Omega.{arith}
 use Rattle.rounding.specs.Mode.{modeOf}
 use Rattle.aligned.proofs.AsFound.{top-modest, sign-is}
-use Rattle.aligned.proofs.FewFound.{differs-some, lengths-told, few-cancels, columns-two, few-told}
+use Rattle.aligned.proofs.FewFound.{difference-some, lengths-told, few-cancels, columns-two, few-told}
 use borrow.Author.Needs.{needs}
 use Rattle.aligned.proofs.few.subtract.Statement.{statement}
 use Rattle.aligned.proofs.few.subtract.Tie as tie
@@ -40,7 +40,7 @@ normalize-requires c κs =
     let s = c .before .before .before .before .before .before .before .before .before in
     let d = c .before .before .before .difference .result in
     let top = top-modest _ _ _ _ (s .pre .1) (s .pre .3) in
-    (differs-some (d .high) (d .low) (c .if2 .left), λ e. absurd (true≢false (sym e)), columns-two _ _ _ _ (s .pre .1) (s .pre .3), omega arith)
+    (difference-some (d .high) (d .low) (c .if2 .left), λ e. absurd (true≢false (sym e)), columns-two _ _ _ _ (s .pre .1) (s .pre .3), omega arith)
 
 write-requires : tie.Need-write-requires
 write-requires c κs = search needs
@@ -53,7 +53,7 @@ returns-3 c =
     let s = c .before .before .before .before .before .before .before .before .before .before .before .before .before .before .before .before in
     let calm = sym (c .before .before .before .before .before .before .before .before .before .before .before .before .is-low .ensures) ∙ c .before .before .before .before .before .before .before .before .before .before .before .if1 .left in
     let d = c .before .before .before .before .before .before .before .before .before .before .difference in
-    let some = differs-some (d .result .high) (d .result .low) (c .before .before .before .before .before .before .before .if2 .left) in
+    let some = difference-some (d .result .high) (d .result .low) (c .before .before .before .before .before .before .before .if2 .left) in
     let r = c .before .before .before .before .before .before .normalize in
     let w = c .before .before .before .before .write in
     (w .ensures .0, λ e. few-told (s .args .x) (s .args .xl .now) (s .args .y) (s .args .yl .now) (s .args .target .now) (s .args .top) (s .pre .1) (s .pre .2) (s .pre .3) (d .result) (d .ensures) some calm (s .pre .0) (r .result) (r .ensures) (search needs) (search needs) _ (w .ensures .0) (λ i. c .before .before .slice-known3 .given i .fits) (w .ensures .1) (modeOf (s .args .mode)))

@@ -1,4 +1,4 @@
--- `short::far::fill` is right since the larger stands alone in the target, or one less than it. Assumes nothing.
+-- `short::apart::fill` is right since the larger stands alone in the target, or one less than it. Assumes nothing.
 use mathlib.Core.Path.{refl, _∙_}
 use native.Mathlib.Omega.{arith}
 use Rattle.short.proofs.FarSum.{alone-worth, far-more, far-less, fallen-value}

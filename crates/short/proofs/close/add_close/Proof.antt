@@ -1,4 +1,4 @@
--- `short::near::near` is right since two columns read all, and the sum has fewer digits than the answer. Assumes nothing.
+-- `short::close::add_close` is right since two columns read all, and the sum has fewer digits than the answer. Assumes nothing.
 use native.Mathlib.Omega.{arith}
 use Rattle.short.proofs.Held.{sum-leads, sum-some, second-few, top-room}
 use Rattle.short.proofs.NearSum.{near-tells}

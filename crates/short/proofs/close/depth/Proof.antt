@@ -1,4 +1,4 @@
--- `short::near::depth` is right by its test. Assumes nothing.
+-- `short::close::depth` is right by its test. Assumes nothing.
 use mathlib.Core.Path.{refl}
 use Prim.Native.Nat.{_+_}
 use borrow.Author.Tests.{le-leb, lt-leb}

@@ -1,4 +1,4 @@
--- `short::near::write` is right since two limbs of zeros are set. Assumes nothing.
+-- `short::close::write` is right since two limbs of zeros are set. Assumes nothing.
 use mathlib.Core.Path.{ap, _∙_}
 use mathlib.Core.List.{List}
 use Prim.Native.Nat.{ℕ, _-_, _^_}

@@ -1,11 +1,11 @@
--- `far::round_filled` is right since the run that fills the target is rounded as it stands. Assumes nothing.
+-- `far::round_beside` is right since the run that fills the target is rounded as it stands. Assumes nothing.
 use native.Mathlib.Omega.{arith}
 use Rattle.descent.proofs.GoingDown.{room-kept}
 use Rattle.wide.proofs.InOrder.{limbs-weigh}
 use Rattle.far.proofs.FirstAlone.{far-unit, far-fit}
 use borrow.Author.Needs.{needs}
-use Rattle.far.proofs.round_filled.Statement.{statement}
-use Rattle.far.proofs.round_filled.Tie as tie
+use Rattle.far.proofs.round_beside.Statement.{statement}
+use Rattle.far.proofs.round_beside.Tie as tie
 
 fill-requires : tie.Need-fill-requires
 fill-requires c κs = c .before .before .before .pre .long
@@ -51,8 +51,8 @@ returns c =
       left = r .ensures .1;
     }
 
-pub round-filled-spec : {M : Type 1} → statement M
-round-filled-spec =
+pub round-beside-spec : {M : Type 1} → statement M
+round-beside-spec =
     tie.close
     (tie.spec
     fill-requires
