@@ -388,9 +388,10 @@ static void row(const char *group, const char *name, double bar, loop kernel, lo
     fflush(stdout);
 }
 
+static const loop kernel[] = {kernel_add, kernel_subtract, kernel_reround};
+static const loop other[] = {mpfr_adds, mpfr_subtracts, mpfr_sets};
+
 static void sum_row(const char *group, operation f, uint64_t px, uint64_t py, uint64_t pt, shape s, double bar) {
-    static const loop kernel[] = {kernel_add, kernel_subtract, kernel_reround};
-    static const loop other[] = {mpfr_adds, mpfr_subtracts, mpfr_sets};
     char name[100];
     if (f == REROUND)
         snprintf(name, sizeof name, "%s %lu -> %lu", operation_name[f], (unsigned long)px, (unsigned long)pt);
@@ -486,25 +487,29 @@ static void run_rows(void) {
     }
 }
 
-// sums that a given column fixes: the digits below the last one kept are ones down to the column before
-static void depth_rows(void) {
-    for (uint64_t depth = 1; depth <= 64; depth *= 2) {
-        char name[100];
-        snprintf(name, sizeof name, "add 4096,4096 -> 53, depth %lu", (unsigned long)depth);
-        if (!wanted(name)) continue;
-        set_target(53);
-        for (size_t i = 0; i < case_count; i++) {
-            pair *c = &cases[i];
-            do {
-                make_pair(c, EQUAL, 4096, 4096, 53);
-                if (depth > 1) {
-                    c->y.limbs[63] = (c->y.limbs[63] & ~(uint64_t)0xfff) | (~c->x.limbs[63] & 0xfff);
-                    for (uint64_t k = 1; k + 1 < depth; k++) c->y.limbs[63 - k] = ~c->x.limbs[63 - k];
-                }
-            } while (both(ADD, c).depth != depth);
-        }
-        row("depth", name, 0, kernel_add, mpfr_adds, true);
+// sums and differences that a given column fixes: the digits below the last one kept are ones, or zeros, down to the column before
+static void depth_row(operation f, uint64_t depth) {
+    char name[100];
+    snprintf(name, sizeof name, "%s 4096,4096 -> 53, depth %lu", operation_name[f], (unsigned long)depth);
+    if (!wanted(name)) return;
+    uint64_t turn = f == ADD ? ~(uint64_t)0 : 0;
+    set_target(53);
+    for (size_t i = 0; i < case_count; i++) {
+        pair *c = &cases[i];
+        do {
+            make_pair(c, EQUAL, 4096, 4096, 53);
+            if (depth > 1) {
+                c->y.limbs[63] = (c->y.limbs[63] & ~(uint64_t)0xfff) | ((c->x.limbs[63] ^ turn) & 0xfff);
+                for (uint64_t k = 1; k + 1 < depth; k++) c->y.limbs[63 - k] = c->x.limbs[63 - k] ^ turn;
+            }
+        } while (both(f, c).depth != depth);
     }
+    row("depth", name, 2.0, kernel[f], other[f], true);
+}
+
+static void depth_rows(void) {
+    for (operation f = ADD; f <= SUBTRACT; f++)
+        for (uint64_t depth = 1; depth <= 64; depth *= 2) depth_row(f, depth);
 }
 
 // ---- answers compared, untimed: every precision, gaps of all sizes, runs of ones and zeros, the ends of the exponents

@@ -155,7 +155,7 @@ def sums_panel(rows, operation, left, low, high):
 
 
 def depth_panel(rows, left):
-    part = [(int(r[1].rsplit(" ", 1)[1]), r[2], r[3]) for r in rows if r[0] == "depth"]
+    part = [(int(r[1].rsplit(" ", 1)[1]), r[2], r[3]) for r in rows if r[0] == "depth" and r[1].startswith("add")]
     xs = [p[0] for p in part]
     low, high = min(min(p[1:]) for p in part) / 1.5, max(max(p[1:]) for p in part) * 3
     panel = Panel(left, 60, 260, 300, xs, low, high)
