@@ -12,7 +12,7 @@ use Rattle.checks.specs.declared.Refusal.{Refusal}
 use Rattle.lines.specs.Line.{longestLine, shortestLine}
 use Rattle.desklines.specs.Order.{orderSize, orderRefusal}
 use Rattle.desklines.specs.Answer.{refusalLine, numberRefusal, earlier, linesRefusal, groupRefusal, Answered}
-use Rattle.groups.proofs.Groups.{earlier-first, ruled}
+use Rattle.stream.proofs.Groups.{earlier-first, ruled}
 use Rattle.cutting.specs.Lines.{lineRoom, cutLine}
 
 short-cut : (l : List ℕ) → length l ≤ lineRoom → cutLine l ≡ l

@@ -1,3 +1,6 @@
+pub mod Numbers
+pub mod Formed
+pub mod Groups
 pub mod Cuts
 pub mod Printing
 pub mod Pieces

@@ -1,4 +1,5 @@
 // Pieces of the input taken, and what is printed for the groups that end in them.
+use crate::answering::answer;
 use checks::Refusal;
 use cutting::Held;
 use cutting::cut;
@@ -43,15 +44,15 @@ fn ready(held: Held, first: &[u8], second: &[u8], third: &[u8], out: &[u8]) -> b
     most <= out.len()
 }
 
-// The answer of a whole group.
-fn answer(held: Held, first: &[u8], second: &[u8], third: &[u8], out: &mut [u8]) -> usize
+// The answer of a whole group that is held.
+fn answer_held(held: Held, first: &[u8], second: &[u8], third: &[u8], out: &mut [u8]) -> usize
     requires { ⌜ Within held × Rooms (now first) (now second) (now third) ⌝ }
     ensures { λ r. ⌜ Answers (take (held .first) (now (first .entry))) (take (held .second) (now (second .entry))) (take (held .third) (now (third .entry))) (now (out .entry)) (now (out .exit)) r ⌝ }
 {
     let a = held.first;
     let b = held.second;
     let c = held.third;
-    groups::answer(&first[0..a], &second[0..b], &third[0..c], out)
+    answer(&first[0..a], &second[0..b], &third[0..c], out)
 }
 
 // What was done of a piece so far.
@@ -91,7 +92,7 @@ fn serve_groups(
         if k.lines < 3 {
             return so_far(k, taken, told);
         }
-        told += answer(k, first, second, third, &mut out[told..]);
+        told += answer_held(k, first, second, third, &mut out[told..]);
         h = start();
     }
     so_far(h, taken, told)
@@ -155,5 +156,5 @@ pub fn finish(held: Held, first: &[u8], second: &[u8], third: &[u8], out: &mut [
         return cut_short(3, out);
     }
     let h = within(held);
-    answer(h, first, second, third, out)
+    answer_held(h, first, second, third, out)
 }

@@ -1,4 +1,4 @@
--- `groups::digits_hold`: digits, and LF at the end. Assumes nothing.
+-- `desklines::digits_hold`: digits, and LF at the end. Assumes nothing.
 use mathlib.Core.Path.{refl}
 use native.Mathlib.Omega.{arith}
 use Rattle.lines.proofs.Fields.{no-end, digits-left}

@@ -1,4 +1,4 @@
--- `groups::field_at`: digits of an accepted line are a whole number that fits. Assumes nothing.
+-- `desklines::field_at`: digits of an accepted line are a whole number that fits. Assumes nothing.
 use Prim.Native.Nat.{_+_, _<_}
 use mathlib.Core.Path.{refl, _∙_}
 use native.Mathlib.Omega.{arith}

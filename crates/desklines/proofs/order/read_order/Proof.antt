@@ -1,4 +1,4 @@
--- `groups::read_order`: 8, 9, 11 in that order. Assumes nothing.
+-- `desklines::read_order`: 8, 9, 11 in that order. Assumes nothing.
 use mathlib.Core.Path.{sym, _∙_}
 use native.Mathlib.Omega.{arith}
 use borrow.Author.Tests.{not-true, not-false}

@@ -1,4 +1,4 @@
--- `groups::longest_answer`: the longest line and the report. Assumes nothing.
+-- `desklines::longest_answer`: the longest line and the report. Assumes nothing.
 use mathlib.Core.Path.{refl}
 use Rattle.numbers.specs.Limits.{mostPrecision, limbsFor}
 use Rattle.lines.specs.Line.{longestLine, shortestLine}

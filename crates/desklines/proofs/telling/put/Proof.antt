@@ -1,4 +1,4 @@
--- `groups::put`: the digits stand behind what stood there. Assumes nothing.
+-- `desklines::put`: the digits stand behind what stood there. Assumes nothing.
 use borrow.Author.Needs.{needs}
 use Rattle.desklines.proofs.Tellings.{put-more}
 use Rattle.desklines.proofs.telling.put.Statement.{statement}

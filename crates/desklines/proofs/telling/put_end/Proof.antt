@@ -1,4 +1,4 @@
--- `groups::put_end`: the LF stands behind what stood there. Assumes nothing.
+-- `desklines::put_end`: the LF stands behind what stood there. Assumes nothing.
 use borrow.Author.Needs.{needs}
 use Rattle.desklines.proofs.Tellings.{end-more}
 use Rattle.desklines.proofs.telling.put_end.Statement.{statement}

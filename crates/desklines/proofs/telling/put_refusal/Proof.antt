@@ -1,4 +1,4 @@
--- `groups::put_refusal`: ee, number and place, and LF, one behind the other. Assumes nothing.
+-- `desklines::put_refusal`: ee, number and place, and LF, one behind the other. Assumes nothing.
 use borrow.Author.Needs.{needs}
 use native.Mathlib.Omega.{arith}
 use Rattle.desklines.proofs.Tellings.{refusal-fits, refusal-told}

@@ -1,4 +1,4 @@
--- `groups::put_report`: each part behind the one before. Assumes nothing.
+-- `desklines::put_report`: each part behind the one before. Assumes nothing.
 use mir.Facts.{toZ-ofZ}
 use mir.Syntax.{w8}
 use mir.Val.{SFits}

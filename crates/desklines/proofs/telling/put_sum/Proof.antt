@@ -1,4 +1,4 @@
--- `groups::put_sum`: a refused sum has its refusal; every other is of good form, so that its line is written. Assumes nothing.
+-- `desklines::put_sum`: a refused sum has its refusal; every other is of good form, so that its line is written. Assumes nothing.
 use borrow.Author.Needs.{needs}
 use native.Mathlib.Omega.{arith}
 use Rattle.desklines.proofs.Tellings.{refused-told, count-fits, sum-told}

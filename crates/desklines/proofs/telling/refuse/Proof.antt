@@ -1,4 +1,4 @@
--- `groups::refuse`: the refusal's line where there is room for any answer. Assumes nothing.
+-- `desklines::refuse`: the refusal's line where there is room for any answer. Assumes nothing.
 use mathlib.Core.Path.{refl}
 use native.Mathlib.Omega.{arith}
 use borrow.Author.Needs.{needs}

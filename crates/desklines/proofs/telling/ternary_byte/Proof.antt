@@ -1,4 +1,4 @@
--- `groups::ternary_byte`: by the sign. Assumes nothing.
+-- `desklines::ternary_byte`: by the sign. Assumes nothing.
 use mir.Facts.{toZ-ofZ}
 use Rattle.desklines.proofs.Tellings.{below-zero, above-zero, just-zero}
 use Rattle.desklines.proofs.telling.ternary_byte.Statement.{statement}

@@ -60,8 +60,8 @@ returns-6 c = finish-only-two (record { held = c .before .before .before .before
 within-requires : tie.Need-within-requires
 within-requires c κs = search needs
 
-answer-requires : tie.Need-answer-requires
-answer-requires c κs =
+answer-held-requires : tie.Need-answer-held-requires
+answer-held-requires c κs =
     let w = c .before .within .ensures in
     (record { first = w .1 .0; second = w .2 .0; third = w .3 .0 }, is-ready (record { held = c .before .before .before .before .before .before .before .before .before .before .before .before .before .before .before .args .held; first = c .before .before .before .before .before .before .before .before .before .before .before .before .before .before .before .args .first .now; second = c .before .before .before .before .before .before .before .before .before .before .before .before .before .before .before .args .second .now; third = c .before .before .before .before .before .before .before .before .before .before .before .before .before .before .before .args .third .now }) (c .before .before .before .before .before .before .before .before .before .before .before .before .before .before .before .args .out .now) (sym (c .before .before .before .before .before .before .before .before .before .ready .ensures) ∙ not-false _ (c .before .before .before .before .before .before .before .before .if1 .left)) .rooms)
 
@@ -71,7 +71,7 @@ same-length-7 c = search needs
 returns-7 : tie.Need-returns-7
 returns-7 c =
     let w = c .before .before .before .before .within in
-    finish-three (record { held = c .before .before .before .before .before .before .before .before .before .before .before .before .before .before .before .before .before .before .args .held; first = c .before .before .before .before .before .before .before .before .before .before .before .before .before .before .before .before .before .before .args .first .now; second = c .before .before .before .before .before .before .before .before .before .before .before .before .before .before .before .before .before .before .args .second .now; third = c .before .before .before .before .before .before .before .before .before .before .before .before .before .before .before .before .before .before .args .third .now }) (c .before .before .before .before .before .before .before .before .before .before .before .before .before .before .before .before .before .before .args .out .now) _ _ (sym (c .before .before .before .before .before .before .before .before .before .before .before .before .ready .ensures) ∙ not-false _ (c .before .before .before .before .before .before .before .before .before .before .before .if1 .left)) (w .result) (c .before .before .before .before .before .before .before .before .before .if2 .left) (c .before .before .before .before .before .before .before .if4 .left) (c .before .before .before .before .before .if6 .left) (w .ensures .1) (w .ensures .2) (w .ensures .3) (c .before .before .answer .ensures)
+    finish-three (record { held = c .before .before .before .before .before .before .before .before .before .before .before .before .before .before .before .before .before .before .args .held; first = c .before .before .before .before .before .before .before .before .before .before .before .before .before .before .before .before .before .before .args .first .now; second = c .before .before .before .before .before .before .before .before .before .before .before .before .before .before .before .before .before .before .args .second .now; third = c .before .before .before .before .before .before .before .before .before .before .before .before .before .before .before .before .before .before .args .third .now }) (c .before .before .before .before .before .before .before .before .before .before .before .before .before .before .before .before .before .before .args .out .now) _ _ (sym (c .before .before .before .before .before .before .before .before .before .before .before .before .ready .ensures) ∙ not-false _ (c .before .before .before .before .before .before .before .before .before .before .before .if1 .left)) (w .result) (c .before .before .before .before .before .before .before .before .before .if2 .left) (c .before .before .before .before .before .before .before .if4 .left) (c .before .before .before .before .before .if6 .left) (w .ensures .1) (w .ensures .2) (w .ensures .3) (c .before .before .answer-held .ensures)
 
 pub finish-spec : {M : Type 1} → statement M
 finish-spec =
@@ -95,6 +95,6 @@ finish-spec =
     same-length-6
     returns-6
     within-requires
-    answer-requires
+    answer-held-requires
     same-length-7
     returns-7)

@@ -111,17 +111,17 @@ returns-2 c =
     let k = c .before .before .before .before .before .before .before .before .before .before .before .cut in
     rw (c .so-far2 .ensures) (waits-served (c .before .before .before .before .before .before .before .before .before .before .before .before .before .before .before .before .before .before .before .longest-answer .result) (record { held = g .held; first = g .first .now; second = g .second .now; third = g .third .now }) (g .bytes .now) (g .out .now) (record { held = l .h; first = l .first; second = l .second; third = l .third }) (l .out) (l .taken) (l .told) (l .inv) (c .before .before .before .before .before .before .before .before .before .before .before .before .before .before .before .before .before .loop-test .taken) (c .before .before .before .before .before .before .before .before .before .before .before .before .before .before .before .before .if1 .left) (k .result) (k .last .1 .1 .0) (k .last .1 .1 .1 .0) (k .last .1 .1 .1 .1 .0) (k .ensures) (c .before .if2 .taken))
 
-sub-answer : tie.Need-sub-answer Inv-loop μ-loop
-sub-answer c = search needs
+sub-answer-held : tie.Need-sub-answer-held Inv-loop μ-loop
+sub-answer-held c = search needs
 
-part-answer-start : tie.Need-part-answer-start Inv-loop μ-loop
-part-answer-start c = search needs
+part-answer-held-start : tie.Need-part-answer-held-start Inv-loop μ-loop
+part-answer-held-start c = search needs
 
-part-answer-end : tie.Need-part-answer-end Inv-loop μ-loop
-part-answer-end c = search needs
+part-answer-held-end : tie.Need-part-answer-held-end Inv-loop μ-loop
+part-answer-held-end c = search needs
 
-answer-requires : tie.Need-answer-requires Inv-loop μ-loop
-answer-requires c κs =
+answer-held-requires : tie.Need-answer-held-requires Inv-loop μ-loop
+answer-held-requires c κs =
     let g = c .before .before .before .before .before .before .before .before .before .before .before .before .before .before .before .before .before .before .before .before .before .before .before .before .before .before .before .before .args in
     let l = c .before .before .before .before .before .before .before .before .before .before .before .before .before .before .before .before .before .before .before .before .before .loop in
     let k = c .before .before .before .before .before .before .before .before .before .before .before .before .before .before .cut in
@@ -132,7 +132,7 @@ add-told c =
     let g = c .before .before .before .before .before .before .before .before .before .before .before .before .before .before .before .before .before .before .before .before .before .before .before .before .before .before .before .before .before .before .before .args in
     let l = c .before .before .before .before .before .before .before .before .before .before .before .before .before .before .before .before .before .before .before .before .before .before .before .before .loop in
     let k = c .before .before .before .before .before .before .before .before .before .before .before .before .before .before .before .before .before .cut in
-    let a = c .before .before .answer in
+    let a = c .before .before .answer-held in
     let f = r-fits (c .before .before .before .before .before .before .before .before .before .before .before .before .before .before .before .before .before .before .before .before .before .before .before .before .before .longest-answer .result) (record { held = g .held; first = g .first .now; second = g .second .now; third = g .third .now }) (g .bytes .now) (g .out .now) (record { held = l .h; first = l .first; second = l .second; third = l .third }) (l .out) (l .taken) (l .told) (l .inv) (c .before .before .before .before .before .before .before .before .before .before .before .before .before .before .before .before .before .before .before .before .before .before .before .loop-test .taken) (c .before .before .before .before .before .before .before .before .before .before .before .before .before .before .before .before .before .before .before .before .before .before .if1 .left) (k .result) (k .last .1 .1 .0) (k .last .1 .1 .1 .0) (k .last .1 .1 .1 .1 .0) (k .ensures) (c .before .before .before .before .before .before .before .if2 .left) (a .result) (a .last .1 .1 .1 .1 .0) (a .ensures) (a .kept .1 .1 .1 .1 .0) in
     record { fits = omega (arith, f, l .inv .same, c .before .before .before .before .before .before .before .before .before .before .before .before .before .before .before .before .before .before .before .before .before .before .before .before .before .before .before .before .before .before .before .good .1 .1 .1 .1 .1 .0 .0) }
 
@@ -152,7 +152,7 @@ loop-again c =
     let g = c .before .before .before .before .before .before .before .before .before .before .before .before .before .before .before .before .before .before .before .before .before .before .before .before .before .before .before .before .before .before .before .before .args in
     let l = c .before .before .before .before .before .before .before .before .before .before .before .before .before .before .before .before .before .before .before .before .before .before .before .before .before .loop in
     let k = c .before .before .before .before .before .before .before .before .before .before .before .before .before .before .before .before .before .before .cut in
-    let a = c .before .before .before .answer in
+    let a = c .before .before .before .answer-held in
     serving-next (c .before .before .before .before .before .before .before .before .before .before .before .before .before .before .before .before .before .before .before .before .before .before .before .before .before .before .longest-answer .result) (record { held = g .held; first = g .first .now; second = g .second .now; third = g .third .now }) (g .bytes .now) (g .out .now) (record { held = l .h; first = l .first; second = l .second; third = l .third }) (l .out) (l .taken) (l .told) (l .inv) (c .before .before .before .before .before .before .before .before .before .before .before .before .before .before .before .before .before .before .before .before .before .before .before .before .loop-test .taken) (c .before .before .before .before .before .before .before .before .before .before .before .before .before .before .before .before .before .before .before .before .before .before .before .if1 .left) (k .result) (k .last .1 .1 .0) (k .last .1 .1 .1 .0) (k .last .1 .1 .1 .1 .0) (k .ensures) (c .before .before .before .before .before .before .before .before .if2 .left) (a .result) (a .last .1 .1 .1 .1 .0) (a .ensures) (a .kept .1 .1 .1 .1 .0) (c .start .result) (c .start .ensures) (record { first = k .kept .1 .1 .0 ∙ l .inv .rooms .first; second = k .kept .1 .1 .1 .0 ∙ l .inv .rooms .second; third = k .kept .1 .1 .1 .1 .0 ∙ l .inv .rooms .third }) (taken-far (c .before .before .before .before .before .before .before .before .before .before .before .before .before .before .before .before .before .before .before .before .before .before .before .before .before .before .longest-answer .result) (record { held = g .held; first = g .first .now; second = g .second .now; third = g .third .now }) (g .bytes .now) (g .out .now) (record { held = l .h; first = l .first; second = l .second; third = l .third }) (l .out) (l .taken) (l .told) (l .inv) (c .before .before .before .before .before .before .before .before .before .before .before .before .before .before .before .before .before .before .before .before .before .before .before .before .loop-test .taken) (c .before .before .before .before .before .before .before .before .before .before .before .before .before .before .before .before .before .before .before .before .before .before .before .if1 .left) (k .result) (k .last .1 .1 .0) (k .last .1 .1 .1 .0) (k .last .1 .1 .1 .1 .0) (k .ensures))
 
 so-far-requires-3 : tie.Need-so-far-requires-3 Inv-loop μ-loop
@@ -211,10 +211,10 @@ serve-groups-spec =
     same-length-7
     same-length-8
     returns-2
-    sub-answer
-    part-answer-start
-    part-answer-end
-    answer-requires
+    sub-answer-held
+    part-answer-held-start
+    part-answer-held-end
+    answer-held-requires
     add-told
     start-requires
     loop-less

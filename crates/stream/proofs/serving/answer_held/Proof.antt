@@ -1,9 +1,9 @@
--- `stream::answer`: the lines are what the buffers hold. Assumes nothing.
+-- `stream::answer_held`: the lines are what the buffers hold. Assumes nothing.
 use native.Mathlib.Omega.{arith}
 use Rattle.stream.proofs.Pieces.{whole-part}
 use borrow.Author.Needs.{needs}
-use Rattle.stream.proofs.serving.answer.Statement.{statement}
-use Rattle.stream.proofs.serving.answer.Tie as tie
+use Rattle.stream.proofs.serving.answer_held.Statement.{statement}
+use Rattle.stream.proofs.serving.answer_held.Tie as tie
 
 sub-answer : tie.Need-sub-answer
 sub-answer c = search needs
@@ -43,8 +43,8 @@ returns c =
     let h = c .before .before .before .before .before .before .before .before .before .before .before .args .held in
     rw (whole-part (h .first), whole-part (h .second), whole-part (h .third)) at (c .before .before .answer .ensures)
 
-pub answer-spec : {M : Type 1} → statement M
-answer-spec =
+pub answer-held-spec : {M : Type 1} → statement M
+answer-held-spec =
     tie.close
     (tie.spec
     sub-answer

@@ -1,9 +1,9 @@
--- `groups::most_limbs`: the limbs of the largest precision. Assumes nothing.
+-- `stream::most_limbs`: the limbs of the largest precision. Assumes nothing.
 use mathlib.Core.Path.{refl}
 use Rattle.numbers.specs.Limits.{mostPrecision, limbsFor}
 use Rattle.desklines.specs.Written.{mostLimbs}
-use Rattle.groups.proofs.number.most_limbs.Statement.{statement}
-use Rattle.groups.proofs.number.most_limbs.Tie as tie
+use Rattle.stream.proofs.number.most_limbs.Statement.{statement}
+use Rattle.stream.proofs.number.most_limbs.Tie as tie
 
 returns : tie.Need-returns
 unfolding mostLimbs limbsFor mostPrecision

@@ -1,8 +1,8 @@
--- `groups::sum`: by the operation. Assumes nothing.
-use Rattle.groups.proofs.Groups.{operation-minus, operation-plus}
+-- `stream::sum`: by the operation. Assumes nothing.
+use Rattle.stream.proofs.Groups.{operation-minus, operation-plus}
 use borrow.Author.Needs.{needs}
-use Rattle.groups.proofs.answering.sum.Statement.{statement}
-use Rattle.groups.proofs.answering.sum.Tie as tie
+use Rattle.stream.proofs.answering.sum.Statement.{statement}
+use Rattle.stream.proofs.answering.sum.Tie as tie
 
 subtract-requires : tie.Need-subtract-requires
 subtract-requires c κs = search needs

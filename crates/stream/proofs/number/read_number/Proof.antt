@@ -1,12 +1,12 @@
--- `groups::read_number`: the head, then the limbs, into as many as the precision takes. Assumes nothing.
+-- `stream::read_number`: the head, then the limbs, into as many as the precision takes. Assumes nothing.
 use Prim.Native.Nat.{_-_, _≤_}
 use mathlib.Core.Path.{refl}
 use native.Mathlib.Omega.{arith}
 use lib.ListN.{length, take, drop}
-use Rattle.groups.proofs.Numbers.{too-long, head-refused, part-length, line-refused, line-read}
+use Rattle.stream.proofs.Numbers.{too-long, head-refused, part-length, line-refused, line-read}
 use borrow.Author.Needs.{needs}
-use Rattle.groups.proofs.number.read_number.Statement.{statement}
-use Rattle.groups.proofs.number.read_number.Tie as tie
+use Rattle.stream.proofs.number.read_number.Statement.{statement}
+use Rattle.stream.proofs.number.read_number.Tie as tie
 
 longest-line-requires : tie.Need-longest-line-requires
 longest-line-requires c κs = search needs

@@ -1,9 +1,9 @@
--- `groups::answer_sum`: the sum is of good form or refused, and its lines are the answer. Assumes nothing.
+-- `stream::answer_sum`: the sum is of good form or refused, and its lines are the answer. Assumes nothing.
 use native.Mathlib.Omega.{arith}
-use Rattle.groups.proofs.Groups.{part-formed, part-answered}
+use Rattle.stream.proofs.Groups.{part-formed, part-answered}
 use borrow.Author.Needs.{needs}
-use Rattle.groups.proofs.answering.answer_sum.Statement.{statement}
-use Rattle.groups.proofs.answering.answer_sum.Tie as tie
+use Rattle.stream.proofs.answering.answer_sum.Statement.{statement}
+use Rattle.stream.proofs.answering.answer_sum.Tie as tie
 
 limb-count-requires : tie.Need-limb-count-requires
 limb-count-requires c κs = search needs

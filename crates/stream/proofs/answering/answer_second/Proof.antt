@@ -1,9 +1,9 @@
--- `groups::answer_second`: the second line is refused, or the desk line is next. Assumes nothing.
-use Rattle.groups.proofs.Groups.{refused-second}
-use Rattle.groups.proofs.Numbers.{number-held}
+-- `stream::answer_second`: the second line is refused, or the desk line is next. Assumes nothing.
+use Rattle.stream.proofs.Groups.{refused-second}
+use Rattle.stream.proofs.Numbers.{number-held}
 use borrow.Author.Needs.{needs}
-use Rattle.groups.proofs.answering.answer_second.Statement.{statement}
-use Rattle.groups.proofs.answering.answer_second.Tie as tie
+use Rattle.stream.proofs.answering.answer_second.Statement.{statement}
+use Rattle.stream.proofs.answering.answer_second.Tie as tie
 
 read-number-requires : tie.Need-read-number-requires
 read-number-requires c κs = c .before .before .before .before .before .before .before .pre .0

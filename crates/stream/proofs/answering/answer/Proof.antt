@@ -1,12 +1,12 @@
--- `groups::answer`: room for the limbs, and the group. Assumes nothing.
+-- `stream::answer`: room for the limbs, and the group. Assumes nothing.
 use mathlib.Core.Path.{refl}
 use Rattle.numbers.specs.Limits.{mostPrecision, limbsFor}
 use Rattle.desklines.specs.Written.{mostLimbs}
 use native.Mathlib.Omega.{arith}
-use Rattle.groups.proofs.Groups.{told-answers}
+use Rattle.stream.proofs.Groups.{told-answers}
 use borrow.Author.Needs.{needs}
-use Rattle.groups.proofs.answering.answer.Statement.{statement}
-use Rattle.groups.proofs.answering.answer.Tie as tie
+use Rattle.stream.proofs.answering.answer.Statement.{statement}
+use Rattle.stream.proofs.answering.answer.Tie as tie
 
 longest-answer-requires : tie.Need-longest-answer-requires
 longest-answer-requires c κs = search needs

@@ -30,8 +30,8 @@ use Rattle.desklines.specs.Order.{orderRefusal, orderOf, operationOf}
 use Rattle.desklines.specs.Answer.{refusalLine, sumLines, longestAnswer, operandOfLine, numberRefusal, earlier, linesRefusal, sumRefusal, groupRefusal}
 use Rattle.desklines.specs.Written.{mostLimbs, Tells, NumberRead, NumberHeld, AnswerTold, Answers}
 use Rattle.desklines.proofs.Tellings.{refusal-fits, refusal-length, sum-few}
-use Rattle.groups.proofs.Numbers.{part-length}
-use Rattle.groups.proofs.Formed.{reported-formed}
+use Rattle.stream.proofs.Numbers.{part-length}
+use Rattle.stream.proofs.Formed.{reported-formed}
 
 pub earlier-first : (r s : Refusal) → (r .rule ≡ 0 → ⊥) → earlier r s ≡ r
 unfolding earlier

@@ -1,8 +1,8 @@
--- `groups::answer_order`: the desk line is refused, or its sum is asked. Assumes nothing.
-use Rattle.groups.proofs.Groups.{refused-third}
+-- `stream::answer_order`: the desk line is refused, or its sum is asked. Assumes nothing.
+use Rattle.stream.proofs.Groups.{refused-third}
 use borrow.Author.Needs.{needs}
-use Rattle.groups.proofs.answering.answer_order.Statement.{statement}
-use Rattle.groups.proofs.answering.answer_order.Tie as tie
+use Rattle.stream.proofs.answering.answer_order.Statement.{statement}
+use Rattle.stream.proofs.answering.answer_order.Tie as tie
 
 read-order-requires : tie.Need-read-order-requires
 read-order-requires c κs = search needs

@@ -1,4 +1,0 @@
-pub mod Numbers
-pub mod Formed
-pub mod Groups
-pub mod Examples
