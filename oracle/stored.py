@@ -13,7 +13,7 @@ from itertools import chain
 import desk_cases
 from desk import desk
 from lines import LONGEST
-from vectors import comparisons, doubles, gate, lines, marked, pair_of
+from vectors import comparisons, doubles, field, gate, lines, marked, pair_of
 
 CRATES = os.path.join(os.path.dirname(os.path.dirname(os.path.abspath(__file__))), "crates")
 
@@ -28,12 +28,21 @@ def split_streams():
         yield given.hex(), "".join(told).removesuffix("\n"), None
 
 
+# by the byte that names each
+PARTS = (comparisons, doubles, lines)
+
+
+def parts():
+    """The questions of each part, after the byte that names it; the answers as they are."""
+    for number, cases in enumerate(PARTS):
+        for given, told, refusal in cases():
+            yield field(number, 1) + given, told, refusal
+
+
 # what each program is run on; the output of a program must stay below 1 MiB
 PROGRAMS = {
     "tests_desk": split_streams,
-    "tests_doubles": doubles,
-    "tests_lines": lines,
-    "tests_order": comparisons,
+    "tests_parts": parts,
     "tests_sums": lambda: chain(marked(), gate()),
 }
 MOST_OUTPUT = 2**20 - 1

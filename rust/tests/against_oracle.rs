@@ -240,6 +240,16 @@ fn lines(mut ask: Fields) -> (String, Owned) {
     (read_told(read, &target), if lengthy { Owned::Unasked } else { Owned::Answer(owned) })
 }
 
+/// The questions of `tests_parts`: the first byte names the part that is asked.
+fn by_part(mut ask: Fields) -> (String, Owned) {
+    match ask.byte() {
+        0 => sums(ask),
+        1 => doubles(ask),
+        2 => lines(ask),
+        part => panic!("no part {part}"),
+    }
+}
+
 fn parts(mut ask: Fields) -> (String, Owned) {
     match ask.byte() {
         0 => {
@@ -361,12 +371,7 @@ fn stored_cases() {
         let folder = repository().join("crates").join(program);
         (program, compare_files(program, &folder.join("stdin"), &folder.join("stdout"), answers))
     };
-    conclude(vec![
-        stored("tests_sums", sums),
-        stored("tests_order", sums),
-        stored("tests_doubles", doubles),
-        stored("tests_lines", lines),
-    ]);
+    conclude(vec![stored("tests_sums", sums), stored("tests_parts", by_part)]);
 }
 
 /// The cases of `oracle/face_cases.py`, in the folder that SHEAFBUCKLE_CASES names, else in `target/face`.

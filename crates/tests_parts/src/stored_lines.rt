@@ -1,18 +1,12 @@
-// Runs the stored lines on standard input, one case a line, and prints one answer a line.
+// Stored lines, written and read.
+use crate::answers::put_refusal;
+use crate::answers::read;
 use checks::Number;
-use checks::Refusal;
 use lines::Head;
 use lines::Written;
 ghost use Prim.Native.Nat.{_≤_};
 ghost use mathlib.Core.Path.{_≡_};
 ghost use lib.ListN.{length};
-
-fn put_refusal(out: &mut [u8; 4096], refusal: Refusal) -> usize
-    ensures { λ r. ⌜ r ≤ 4096 ⌝ }
-{
-    let a = vectors::put_byte(out, 0, refusal.rule as u64);
-    vectors::put_byte(out, a, refusal.place as u64)
-}
 
 fn written(w: Written, room: &[u8], out: &mut [u8; 4096]) -> usize
     ensures { λ r. ⌜ r ≤ 4096 ⌝ }
@@ -20,15 +14,6 @@ fn written(w: Written, room: &[u8], out: &mut [u8; 4096]) -> usize
     let a = put_refusal(out, w.refusal);
     let b = vectors::put_pair(out, a, w.count as u64);
     let c = vectors::put_bytes(out, b, room);
-    vectors::put_end(out, c)
-}
-
-fn read(h: Head, target: &[u64], out: &mut [u8; 4096]) -> usize
-    ensures { λ r. ⌜ r ≤ 4096 ⌝ }
-{
-    let a = put_refusal(out, h.refusal);
-    let b = vectors::put_number(out, a, h.number);
-    let c = vectors::put_limbs(out, b, target);
     vectors::put_end(out, c)
 }
 
@@ -65,7 +50,7 @@ fn run_read(line: &[u8], target: &mut [u64], out: &mut [u8; 4096]) -> usize
     if !head_agrees(line, h) {
         return 0;
     }
-    read(h, target, out)
+    read(h.refusal, h.number, target, out)
 }
 
 // Bytes that are lent: the first k, or all where there are not so many.
@@ -153,60 +138,11 @@ fn read_case(line: &[u8], out: &mut [u8; 4096]) -> usize
     read_part(&stored, n, &mut target, vectors::pair_at(line, 2), out)
 }
 
-fn run_case(line: &[u8], out: &mut [u8; 4096]) -> usize
+pub fn run_case(line: &[u8], out: &mut [u8; 4096]) -> usize
     ensures { λ r. ⌜ r ≤ 4096 ⌝ }
 {
     if vectors::byte_at(line, 0) == 0 {
         return write_case(line, out);
     }
     read_case(line, out)
-}
-
-fn print_case(line: &[u8; 4096], held: usize, out: &mut [u8; 4096])
-    requires { ⌜ held ≤ 4096 ⌝ }
-{
-    let whole = &line[..];
-    let n = run_case(&whole[0..held], out);
-    let told = &out[..];
-    io::write_all(1, &told[0..n]);
-}
-
-// Every line that ends in the chunk; the state after it.
-fn run_chunk(
-    start: vectors::Cutter,
-    chunk: &[u8],
-    line: &mut [u8; 4096],
-    out: &mut [u8; 4096],
-) -> vectors::Cutter {
-    let mut c = vectors::cut(start, chunk, line);
-    let mut turns: u64 = 18446744073709551615;
-    while 0 < turns {
-        turns -= 1;
-        if !c.whole {
-            return c;
-        }
-        print_case(line, c.held, out);
-        c = vectors::cut(c, chunk, line);
-    }
-    c
-}
-
-fn run_all(buf: &mut [u8], line: &mut [u8; 4096], out: &mut [u8; 4096]) {
-    let mut c = vectors::start();
-    let mut turns: u64 = 18446744073709551615;
-    while 0 < turns {
-        let got = io::read_full(0, buf);
-        if got == 0 {
-            return;
-        }
-        c = run_chunk(c, &buf[0..got], line, out);
-        turns -= 1;
-    }
-}
-
-fn main() {
-    let mut buf = io::large_buffer();
-    let mut line = io::buffer();
-    let mut out = io::buffer();
-    run_all(&mut buf, &mut line, &mut out);
 }

@@ -1,12 +1,12 @@
--- `tests_doubles::bits_of`: what equals itself is no NaN. Assumes nothing.
+-- `conversions::bits_of`: what equals itself is no NaN. Assumes nothing.
 use mathlib.Core.Path.{_≡_, sym, _∙_}
 use mathlib.Core.Bool.{false, not, true≢false}
 use lib.Dec.{T}
 use lib.Ieee.{Float, nan, inf, fin, isNan, ne}
 use lib.Ieee.Compare.{nan-differs}
 use borrow.Author.Needs.{needs}
-use Rattle.tests_doubles.proofs.bits_of.Statement.{statement}
-use Rattle.tests_doubles.proofs.bits_of.Tie as tie
+use Rattle.tests_parts.proofs.conversions.bits_of.Statement.{statement}
+use Rattle.tests_parts.proofs.conversions.bits_of.Tie as tie
 
 no-nan : (d : Float) → ne d d ≡ false → T (not (isNan d))
 unfolding isNan

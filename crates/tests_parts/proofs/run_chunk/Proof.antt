@@ -1,8 +1,8 @@
--- `tests_lines::run_chunk`: the cutter never holds more than a line's room; the turns left fall. Assumes nothing.
+-- `tests_parts::run_chunk`: the cutter never holds more than a line's room; the turns left fall. Assumes nothing.
 use Prim.Native.Nat.{_≤_}
 use borrow.Author.Needs.{needs}
-use Rattle.tests_lines.proofs.run_chunk.Statement.{statement}
-use Rattle.tests_lines.proofs.run_chunk.Tie as tie
+use Rattle.tests_parts.proofs.run_chunk.Statement.{statement}
+use Rattle.tests_parts.proofs.run_chunk.Tie as tie
 
 abbrev Inv-loop : tie.InvT-loop
 Inv-loop chunk line₀ out₀ c₀ turns₀ line out c turns = c .held ≤ 4096

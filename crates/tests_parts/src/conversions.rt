@@ -1,9 +1,10 @@
-// Runs the conversions on standard input, one a line, and prints one answer a line. A double stands by its bits.
+// Conversions of numbers to doubles and back. A double stands by its bits.
+use crate::answers::put_refusal;
+use crate::answers::read;
 use checks::Number;
 use checks::Refusal;
 use doubles::Converted;
 use doubles::Enclosed;
-use unpack::FromDouble;
 ghost use Prim.Native.Nat.{_≤_};
 
 // The pattern of +infinity; above it, the sign's bit apart, stand those of NaNs.
@@ -26,13 +27,6 @@ fn double_of(bits: u64) -> f64 {
         return zero / zero;
     }
     f64::from_bits(bits)
-}
-
-fn put_refusal(out: &mut [u8; 4096], refusal: Refusal) -> usize
-    ensures { λ r. ⌜ r ≤ 4096 ⌝ }
-{
-    let a = vectors::put_byte(out, 0, refusal.rule as u64);
-    vectors::put_byte(out, a, refusal.place as u64)
 }
 
 fn told(out: &mut [u8; 4096], refusal: Refusal, case: u64, bits: u64) -> usize
@@ -67,15 +61,6 @@ fn enclosed(e: Enclosed, out: &mut [u8; 4096]) -> usize
     vectors::put_end(out, c)
 }
 
-fn read(f: FromDouble, target: &[u64], out: &mut [u8; 4096]) -> usize
-    ensures { λ r. ⌜ r ≤ 4096 ⌝ }
-{
-    let a = put_refusal(out, f.refusal);
-    let b = vectors::put_number(out, a, f.number);
-    let c = vectors::put_limbs(out, b, target);
-    vectors::put_end(out, c)
-}
-
 // Operation 0 converts under the mode; any other encloses.
 fn run_number(
     operation: u64,
@@ -99,7 +84,7 @@ fn run_double(bits: u64, target: &mut [u64], out: &mut [u8; 4096]) -> usize
     ensures { λ r. ⌜ r ≤ 4096 ⌝ }
 {
     let f = unpack::from_double(double_of(bits), target);
-    read(f, target, out)
+    read(f.refusal, f.number, target, out)
 }
 
 // The same with the first k limbs of the target; no answer where there are not so many.
@@ -113,7 +98,7 @@ fn run_part(bits: u64, target: &mut [u64], k: usize, out: &mut [u8; 4096]) -> us
 }
 
 // After the operation, 2 digits: mode (2) and a number; or for operation 2 a double (16), target limb count (4), fill (2).
-fn run_case(line: &[u8], out: &mut [u8; 4096]) -> usize
+pub fn run_case(line: &[u8], out: &mut [u8; 4096]) -> usize
     ensures { λ r. ⌜ r ≤ 4096 ⌝ }
 {
     let operation = vectors::byte_at(line, 0);
@@ -127,53 +112,4 @@ fn run_case(line: &[u8], out: &mut [u8; 4096]) -> usize
     let x = vectors::number_at(line, 4);
     let n = vectors::limbs_at(line, 32, &mut xl);
     run_number(operation, mode, x, &xl, n, out)
-}
-
-fn print_case(line: &[u8; 4096], held: usize, out: &mut [u8; 4096])
-    requires { ⌜ held ≤ 4096 ⌝ }
-{
-    let whole = &line[..];
-    let n = run_case(&whole[0..held], out);
-    let told = &out[..];
-    io::write_all(1, &told[0..n]);
-}
-
-// Every line that ends in the chunk; the state after it.
-fn run_chunk(
-    start: vectors::Cutter,
-    chunk: &[u8],
-    line: &mut [u8; 4096],
-    out: &mut [u8; 4096],
-) -> vectors::Cutter {
-    let mut c = vectors::cut(start, chunk, line);
-    let mut turns: u64 = 18446744073709551615;
-    while 0 < turns {
-        turns -= 1;
-        if !c.whole {
-            return c;
-        }
-        print_case(line, c.held, out);
-        c = vectors::cut(c, chunk, line);
-    }
-    c
-}
-
-fn run_all(buf: &mut [u8], line: &mut [u8; 4096], out: &mut [u8; 4096]) {
-    let mut c = vectors::start();
-    let mut turns: u64 = 18446744073709551615;
-    while 0 < turns {
-        let got = io::read_full(0, buf);
-        if got == 0 {
-            return;
-        }
-        c = run_chunk(c, &buf[0..got], line, out);
-        turns -= 1;
-    }
-}
-
-fn main() {
-    let mut buf = io::large_buffer();
-    let mut line = io::buffer();
-    let mut out = io::buffer();
-    run_all(&mut buf, &mut line, &mut out);
 }

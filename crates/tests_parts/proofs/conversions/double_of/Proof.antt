@@ -1,4 +1,4 @@
--- `tests_doubles::double_of`: without its sign's bit, a pattern up to the infinity's is no NaN's. Assumes nothing.
+-- `conversions::double_of`: without its sign's bit, a pattern up to the infinity's is no NaN's. Assumes nothing.
 use mathlib.Core.Path.{sym, _∙_, subst}
 use mathlib.Core.Bool.{Bool, not}
 use Prim.Native.Nat.{ℕ, _*_, _%_, _^_, _≤_}
@@ -8,8 +8,8 @@ use lib.Ieee.{binary64, nanBits}
 use lib.Ieee.Bits.{nanBits-above}
 use borrow.Author.Tests.{le-ltb}
 use borrow.Author.Needs.{needs}
-use Rattle.tests_doubles.proofs.double_of.Statement.{statement}
-use Rattle.tests_doubles.proofs.double_of.Tie as tie
+use Rattle.tests_parts.proofs.conversions.double_of.Statement.{statement}
+use Rattle.tests_parts.proofs.conversions.double_of.Tie as tie
 
 no-nan : (b : ℕ) → b % 2 ^ 63 ≤ 2047 * 2 ^ 52 → T (not (nanBits binary64 b))
 no-nan b h = subst (λ (t : Bool). T (not t)) (sym (nanBits-above binary64 b ∙ le-ltb (2047 * 2 ^ 52) (b % 2 ^ 63) h)) tt

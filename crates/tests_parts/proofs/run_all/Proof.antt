@@ -1,9 +1,9 @@
--- `tests_lines::run_all`: the buffer keeps its length; the turns left fall. Assumes nothing.
+-- `tests_parts::run_all`: the buffer keeps its length; the turns left fall. Assumes nothing.
 use borrow.Author.Needs.{needs}
 use lib.ListN.{length}
 use mathlib.Core.Path.{_≡_}
-use Rattle.tests_lines.proofs.run_all.Statement.{statement}
-use Rattle.tests_lines.proofs.run_all.Tie as tie
+use Rattle.tests_parts.proofs.run_all.Statement.{statement}
+use Rattle.tests_parts.proofs.run_all.Tie as tie
 
 abbrev Inv-loop : tie.InvT-loop
 Inv-loop buf₀ line₀ out₀ c₀ turns₀ buf line out c turns = length buf ≡ length buf₀

@@ -1,8 +1,8 @@
--- `tests_lines::bytes_at`: no more bytes are written than there is room for. Assumes nothing.
+-- `stored_lines::bytes_at`: no more bytes are written than there is room for. Assumes nothing.
 use Prim.Native.Nat.{_≤_, _-_}
 use borrow.Author.Needs.{needs}
-use Rattle.tests_lines.proofs.bytes_at.Statement.{statement}
-use Rattle.tests_lines.proofs.bytes_at.Tie as tie
+use Rattle.tests_parts.proofs.stored_lines.bytes_at.Statement.{statement}
+use Rattle.tests_parts.proofs.stored_lines.bytes_at.Tie as tie
 
 abbrev Inv-loop : tie.InvT-loop
 Inv-loop line at n out₀ end place₀ i₀ out place i = (i ≤ end) × (end ≤ 2048)
