@@ -1,0 +1,46 @@
+-- `reading::is_fixed` is right since it answers true only where the first column has more than p digits, and then only for a mixed tail or where both operands end above. Assumes nothing.
+use mathlib.Core.Path.{refl}
+use mathlib.Core.Logic.{inl}
+use native.Mathlib.Omega.{arith}
+use Rattle.limb.proofs.Tests.{true-false}
+use Rattle.deep.proofs.ReadingOn.{ends-read}
+use borrow.Author.Needs.{needs}
+use Rattle.deep.proofs.reading.is_fixed.Statement.{statement}
+use Rattle.deep.proofs.reading.is_fixed.Tie as tie
+
+digits-of-requires : tie.Need-digits-of-requires
+digits-of-requires c κs = search needs
+
+returns : tie.Need-returns
+returns c = λ e. absurd (true-false e refl)
+
+is-mixed-requires : tie.Need-is-mixed-requires
+is-mixed-requires c κs = search needs
+
+returns-2 : tie.Need-returns-2
+returns-2 c = λ e. record { long = omega (arith, c .before .before .before .digits-of .ensures, c .before .before .if1 .left); ends = inl (c .before .is-mixed .ensures .0 (c .if2 .taken)) }
+
+mul-result : tie.Need-mul-result
+mul-result c = search needs
+
+add-result : tie.Need-add-result
+add-result c = search needs
+
+mul-result-2 : tie.Need-mul-result-2
+mul-result-2 c = search needs
+
+returns-3 : tie.Need-returns-3
+returns-3 c = λ e. let g = c .before .before .before .before .before .before in ends-read (g .args .p) (g .args .pair) (g .args .front) (g .args .k) (g .pre .1) (omega (arith, c .before .before .before .before .before .digits-of .ensures, c .before .before .before .before .if1 .left)) e
+
+pub is-fixed-spec : {M : Type 1} → statement M
+is-fixed-spec =
+    tie.close
+    (tie.spec
+    digits-of-requires
+    returns
+    is-mixed-requires
+    returns-2
+    mul-result
+    add-result
+    mul-result-2
+    returns-3)
