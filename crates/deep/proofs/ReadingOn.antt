@@ -1,28 +1,31 @@
 -- Columns passed over and one more: those passed go on as the last digit of the first does, so that a tail of zeros or of ones shows them, and the next column is added below it or taken off. Assumes nothing.
 use mathlib.Core.Path.{_≡_, refl, sym, ap, _∙_, subst}
-use mathlib.Core.Logic.{inr}
-use mathlib.Core.Bool.{Bool, true, false, _&&_, true≢false}
+use mathlib.Core.Logic.{inl, inr}
+use mathlib.Core.Bool.{Bool, true, false, not, cond, _&&_, true≢false}
 use mathlib.Core.List.{List}
 use Prim.Native.Nat.{ℕ, zero, suc, _+_, _-_, _*_, _%_, _^_, _≤_, _<_}
 use native.Mathlib.Omega.{arith}
 use borrow.Author.Tests.{eqb-true, eqb-false}
-use lib.Dec.{eqb, leb}
+use lib.Dec.{eqb, leb, ltb}
 use lib.Ieee.{size}
 use lib.Pow.{pow-pos}
 use Rattle.limb.specs.Value.{Below}
 use Rattle.limb.proofs.Tests.{true-false}
 use Rattle.numbers.specs.Operand.{Operand}
+use Rattle.rounding.proofs.Order.{le-or-lt}
 use Rattle.columns.specs.Column.{readTo, columnOf}
 use Rattle.columns.proofs.Reading.{read-more, read-lt, column-lt}
 use Rattle.walk.specs.declared.state.Tail.{Tail}
-use Rattle.walk.specs.declared.state.Tail.the-variants.{Empty, Zeros, Ones, Mixed}
+use Rattle.walk.specs.declared.state.Tail.the-variants.{Empty, Zeros, Ones}
 use Rattle.walk.specs.Window.{TailIs}
+use Rattle.walk.specs.Tail.{Unmixed}
 use Rattle.depth.specs.Bound.{deepest}
 use Rattle.depth.proofs.Bounds.{deepest-today}
-use Rattle.settle.specs.Rows.{Modest}
-use Rattle.settle.proofs.Table.{pair-exact}
+use Rattle.settle.specs.Rows.{rowOf, Modest}
+use Rattle.settle.proofs.Table.{pair-exact, pair-far, pair-seen}
 use Rattle.settle.specs.declared.rows.Pair.{Pair}
-use Rattle.bridge.specs.Verdict.{readSum}
+use Rattle.settle.specs.declared.rows.Row.the-variants.{Plus, Minus, Hole}
+use Rattle.bridge.specs.Verdict.{readSum, exact?}
 use Rattle.descent.proofs.JudgingRows.{pair-modest}
 use Rattle.front.specs.declared.showing.Front.{Front}
 use Rattle.front.specs.Front.{firstOf, Kept, ShowsFront, Stepped}
@@ -48,10 +51,49 @@ module _ (odd : Bool) (columns : ℕ) (some : 1 ≤ columns) (more : columns ≡
   pub kept-zeros : odd ≡ false → KeptTail odd columns Zeros
   kept-zeros o = record { zeros = λ f. (below, refl); ones = λ f s h. absurd (true-false f o); unmixed = λ m. true≢false cc }
 
--- ---- a column that ends the reading
+-- ---- a column that ends the reading, or does not
 
-pub ends-read : (p : ℕ) (pair : Pair) (front : Front) (k : ℕ) → 0 < pair .second → p < size (firstOf front) → (leb (pair .first) (64 * k) && leb (pair .gap + pair .second) (64 * k)) ≡ true → Ends p pair front k
-ends-read p pair front k some long e = record { long = long; ends = inr (sym (pair-exact pair k (λ z. omega arith) e)) }
+-- a row where something is unread is not exact
+far-open : (hole same next most : Bool) → exact? (cond hole Hole (cond same (Plus true next true) (Minus most))) ≡ false
+unfolding exact?
+far-open true same next most = refl
+far-open false true next most = refl
+far-open false false next most = refl
+
+seen-open : (same both second most first : Bool) → exact? (cond same (cond both (Plus false true most) (Plus false false true)) (cond second (Minus first) (Plus false false true))) ≡ false
+unfolding exact?
+seen-open true true second most first = refl
+seen-open true false second most first = refl
+seen-open false both true most first = refl
+seen-open false both false most first = refl
+
+module _ (p : ℕ) (pair : Pair) (front : Front) (k : ℕ) (some : 0 < pair .second) (long : p < size (firstOf front)) where
+  abbrev c : ℕ
+  c = 64 * k
+
+  abbrev all-read : Bool
+  all-read = leb (pair .first) c && leb (pair .gap + pair .second) c
+
+  there : pair .second ≡ 0 → ⊥
+  there z = omega arith
+
+  pub ends-read : all-read ≡ true → Ends p pair front k
+  ends-read e = record { long = long; ends = inr (sym (pair-exact pair k there e)) }
+
+  unread-row : all-read ≡ false → exact? (rowOf pair k) ≡ false
+  unread-row e = elim (le-or-lt c (pair .gap)) [
+    | inl far ↦ ap exact? (sym (pair-far pair k there e far)) ∙ far-open (leb (pair .first) c) (pair .same) (ltb (pair .gap) (pair .first)) (not (eqb (pair .first) (c + 1) && eqb (pair .gap) c))
+    | inr near ↦
+        ap exact? (sym (pair-seen pair k there e near))
+        ∙ seen-open (pair .same) (ltb c (pair .first) && ltb c (pair .gap + pair .second)) (ltb c (pair .gap + pair .second)) (not (eqb (pair .first) (c + 1) && eqb (pair .gap + pair .second) (c + 1))) (ltb c (pair .first))
+  ]
+
+  pub goes-on-below : Unmixed (front .tail) → all-read ≡ false → Ends p pair front k → ⊥
+  unfolding exact?
+  goes-on-below unmixed e ends = elim (ends .ends) [
+    | inl mixed ↦ unmixed mixed
+    | inr exact ↦ true≢false (sym (ap exact? exact) ∙ unread-row e)
+  ]
 
 -- ---- over plain numbers
 
@@ -152,7 +194,7 @@ module _ (x y : Operand) (pair : Pair) (first second : List ℕ) (h : Holding x 
 
   -- ---- and the next column
 
-  module _ (t a b : ℕ) (a-is : a ≡ columnOf (suc t) 0 first) (b-is : b ≡ columnOf (suc t) (pair .gap) second) (front next : Front) (shows : ShowsFront front t (readSum x y (suc t))) (unmixed : front .tail ≡ Mixed → ⊥) (step : Stepped (pair .same) front a b next) where
+  module _ (t a b : ℕ) (a-is : a ≡ columnOf (suc t) 0 first) (b-is : b ≡ columnOf (suc t) (pair .gap) second) (front next : Front) (shows : ShowsFront front t (readSum x y (suc t))) (unmixed : Unmixed (front .tail)) (step : Stepped (pair .same) front a b next) where
     abbrev D : ℕ
     D = readSum x y (suc t)
 
@@ -211,9 +253,9 @@ module _ (x y : Operand) (pair : Pair) (first second : List ℕ) (h : Holding x 
 
     module _ (p stop : ℕ) (inner : Inner pair stop) (a b : ℕ) (next : Front) (step : Stepped (pair .same) above a b next) where
       reads : (t columns : ℕ) → columns ≡ suc (suc t) → suc t ≤ stop → PassedBelow pair odd first second (suc t) → KeptTail odd (suc t) tail
-          → a ≡ columnOf (suc t) 0 first → b ≡ columnOf (suc t) (pair .gap) second → (fixed : Bool) → (fixed ≡ true → Ends p pair next columns)
+          → a ≡ columnOf (suc t) 0 first → b ≡ columnOf (suc t) (pair .gap) second → (fixed : Bool) → (fixed ≡ true → Ends p pair next columns) → (fixed ≡ false → Ends p pair next columns → ⊥)
           → ReadOn p pair stop x y (record { fixed = fixed; front = next; columns = columns })
-      reads t columns e few passed below a-is b-is fixed ends =
+      reads t columns e few passed below a-is b-is fixed ends goes-on =
           let before : columns - 1 ≡ suc t = omega arith in
           let under : columns - 2 ≡ t = omega arith in
           let k = kept-shown t passed below in
@@ -223,10 +265,11 @@ module _ (x y : Operand) (pair : Pair) (first second : List ℕ) (h : Holding x 
             kept = rw (under, before) (k .0);
             shows = rw (before, e) (next-shows t a b a-is b-is above next (k .1) (below .unmixed) step);
             ends = ends;
+            goes-on = goes-on;
           }
 
       pub read-on : (on : ℕ) → Within 1 stop on → PassedBelow pair odd first second on → KeptTail odd on tail
-          → a ≡ columnOf on 0 first → b ≡ columnOf on (pair .gap) second → (fixed : Bool) → (fixed ≡ true → Ends p pair next (on + 1))
+          → a ≡ columnOf on 0 first → b ≡ columnOf on (pair .gap) second → (fixed : Bool) → (fixed ≡ true → Ends p pair next (on + 1)) → (fixed ≡ false → Ends p pair next (on + 1) → ⊥)
           → ReadOn p pair stop x y (record { fixed = fixed; front = next; columns = on + 1 })
       read-on zero within = absurd (omega (arith, within .on))
       read-on (suc t) within = reads t (suc t + 1) (omega arith) (within .within (inner .some))

@@ -40,7 +40,7 @@ returns c =
     let on = c .before .before .before .before .before .pass-over in
     λ x y h is.
     read-on x y (s .args .pair) (s .args .first .now) (s .args .second .now) h (s .args .begun) is _ refl _ (s .args .p) (s .args .stop) (s .pre .1) _ _ (c .before .step .result) (c .before .step .ensures)
-    (on .result) (on .ensures .0) (on .ensures .1) (c .before .before .before .before .kept-tail .ensures) (c .before .before .before .column .ensures) (c .before .before .column2 .ensures) (c .is-fixed .result) (c .is-fixed .ensures)
+    (on .result) (on .ensures .0) (on .ensures .1) (c .before .before .before .before .kept-tail .ensures) (c .before .before .before .column .ensures) (c .before .before .column2 .ensures) (c .is-fixed .result) (c .is-fixed .ensures .0) (c .is-fixed .ensures .1)
 
 pub read-on-spec : {M : Type 1} → statement M
 read-on-spec =
