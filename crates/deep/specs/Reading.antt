@@ -43,6 +43,7 @@ pub record ReadOn (p : ℕ) (pair : Pair) (stop : ℕ) (x y : Operand) (r : Read
   pub kept : Kept (readSum x y 1) (r .columns - 2) (readSum x y (r .columns - 1))
   pub shows : ShowsFront (r .front) (r .columns - 1) (readSum x y (r .columns))
   pub ends : r .fixed ≡ true → Ends p pair (r .front) (r .columns)
+  pub goes-on : r .fixed ≡ false → Ends p pair (r .front) (r .columns) → ⊥
 
 -- the first column stands in the target, with what is told of it
 pub record Stored (front : Front) (more : Bool) (depth : ℕ) (exit : List ℕ) (r : Filled) : Type 0 where

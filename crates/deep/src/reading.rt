@@ -1,6 +1,6 @@
 // The columns passed over, and one more.
 ghost use mathlib.Core.Path.{_≡_};
-ghost use mathlib.Core.Bool.{true};
+ghost use mathlib.Core.Bool.{true, false};
 ghost use Prim.Native.Nat.{ℕ, _≤_, _<_};
 ghost use Rattle.numbers.specs.Operand.{Operand};
 ghost use Rattle.settle.specs.Ways.{wayIs};
@@ -42,7 +42,7 @@ fn kept_tail(odd: bool, columns: u64) -> Tail
 // Whether k columns are seen to fix the answer: those below the first are neither all zeros nor all ones, or nothing is unread.
 fn is_fixed(p: u64, pair: Pair, front: Front, k: u64) -> bool
     requires { ⌜ Modest pair k × (0 < pair .second) ⌝ }
-    ensures { λ r. ⌜ (r ≡ true → Ends p pair front k) ⌝ }
+    ensures { λ r. ⌜ (r ≡ true → Ends p pair front k) × (r ≡ false → Ends p pair front k → ⊥) ⌝ }
 {
     if front::digits_of(front) <= p {
         return false;

@@ -4,6 +4,7 @@ ghost use mathlib.Core.Bool.{true, false, cond};
 ghost use Prim.Native.Nat.{ℕ, _+_, _-_, _*_, _≤_};
 ghost use lib.Ieee.{size};
 ghost use Rattle.walk.specs.declared.state.Tail.the-variants.{Empty, Mixed};
+ghost use Rattle.walk.specs.Tail.{Unmixed};
 ghost use Rattle.remnant.specs.Rest.{RestAt};
 ghost use Rattle.front.specs.Front.{firstOf, Kept, Changed, Appended, Stepped};
 use remnant::Rest;
@@ -49,7 +50,7 @@ pub fn digits_of(front: Front) -> u64
 
 // Whether the columns below are neither all zeros nor all ones.
 pub fn is_mixed(tail: Tail) -> bool
-    ensures { λ r. ⌜ (r ≡ true → tail ≡ Mixed) ⌝ }
+    ensures { λ r. ⌜ (r ≡ true → tail ≡ Mixed) × (r ≡ false → Unmixed tail) ⌝ }
 {
     match tail {
         Tail::Empty => false,

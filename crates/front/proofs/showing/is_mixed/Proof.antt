@@ -1,5 +1,6 @@
 -- `front::is_mixed` is right since it answers true in the last case alone. Assumes nothing.
 use mathlib.Core.Path.{refl}
+use mathlib.Core.Bool.{true≢false}
 use Rattle.limb.proofs.Tests.{true-false}
 use borrow.Author.Needs.{needs}
 use Rattle.front.proofs.showing.is_mixed.Statement.{statement}
@@ -18,16 +19,16 @@ enum-told-4 : tie.Need-enum-told-4
 enum-told-4 c = search needs
 
 returns : tie.Need-returns
-returns c = λ y. absurd (true-false y refl)
+returns c = (λ y. absurd (true-false y refl), λ y m. true≢false cc)
 
 returns-2 : tie.Need-returns-2
-returns-2 c = λ y. absurd (true-false y refl)
+returns-2 c = (λ y. absurd (true-false y refl), λ y m. true≢false cc)
 
 returns-3 : tie.Need-returns-3
-returns-3 c = λ y. absurd (true-false y refl)
+returns-3 c = (λ y. absurd (true-false y refl), λ y m. true≢false cc)
 
 returns-4 : tie.Need-returns-4
-returns-4 c = search needs
+returns-4 c = (λ y. c .enum-told4 .given .1, λ y. absurd (true-false refl y))
 
 pub is-mixed-spec : {M : Type 1} → statement M
 is-mixed-spec =
