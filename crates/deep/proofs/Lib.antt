@@ -1,3 +1,4 @@
 pub mod Opening
-pub mod Closing
 pub mod ReadingOn
+pub mod Closing
+pub mod FillingTarget
