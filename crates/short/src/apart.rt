@@ -1,4 +1,4 @@
-// Two limbs further apart than the answer is long: the larger stands in the target, and a little more, or a little less, rounds as the other does.
+// Two limbs further apart than the answer is long: the larger stands in the target, and a little more, or a little less, rounds as the other does. A little less that is taken up again leaves the larger as it is.
 ghost use mathlib.Core.Path.{_≡_};
 ghost use mathlib.Core.Bool.{true, false, cond};
 ghost use mathlib.Core.List.{[], _∷_};
