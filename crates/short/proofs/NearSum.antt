@@ -1,6 +1,6 @@
 -- Two limbs less than a limb apart: two columns read all of them, the sum has no more digits than the answer, and it is told as it stands. Assumes nothing.
 use mathlib.Core.Path.{_≡_, refl, sym, ap, _∙_, subst}
-use mathlib.Core.Bool.{Bool, true, false, cond, _&&_, true≢false}
+use mathlib.Core.Bool.{Bool, true, false, cond, _&&_}
 use mathlib.Core.List.{List, [], _∷_}
 use Prim.Native.Nat.{ℕ, _+_, _-_, _*_, _^_, _≤_, _<_, Ordering·eq}
 use native.Mathlib.Nat.{lt-of-lt-of-le, mul-assoc}
@@ -18,22 +18,20 @@ use Rattle.numbers.specs.Limbs.{limbsOf}
 use Rattle.numbers.specs.Operand.{Operand, spareBits}
 use Rattle.numbers.proofs.Digits.{limbs-count, limbs-below, limbs-value, digits-and-spare, precision-two}
 use Rattle.rounding.specs.Mode.{Mode, Way, way}
-use Rattle.rounding.specs.Answer.{number, digits, signed}
+use Rattle.rounding.specs.Answer.{number, digits}
 use Rattle.rounding.specs.Paper.{Rep, Written}
 use Rattle.rounding.specs.Sum.{add}
 use Rattle.rounding.proofs.Range.{written, written-unique}
-use Rattle.depth.specs.Columns.{topExponent}
 use Rattle.decide.specs.Decide.{decideAt}
-use Rattle.decide.proofs.Decision.{depth-decided}
 use Rattle.location.specs.Ternary.{ternaryOf}
 use Rattle.place.specs.Placed.{placedOf, limbsAfter}
 use Rattle.reports.specs.Counts.{usedOf}
-use Rattle.reports.proofs.Counts.{used-all, used-is}
+use Rattle.reports.proofs.Counts.{used-all}
 use Rattle.settle.specs.Rows.{rowOf}
 use Rattle.settle.specs.declared.rows.Pair.{Pair}
 use Rattle.settle.specs.declared.rows.Row.the-variants.{Exact}
 use Rattle.bridge.specs.Verdict.{pairOf, Ordered, Leads, readSum, verdict}
-use Rattle.bridge.proofs.Told.{pair-second, pair-gap, top-is}
+use Rattle.bridge.proofs.Told.{pair-second}
 use Rattle.bridge.proofs.Decision.{decision}
 use Rattle.bridge.proofs.Answers.{exact-sum, sum-pos}
 use Rattle.bridge.proofs.Covered.{columns-above}
@@ -46,6 +44,7 @@ use Rattle.ending.proofs.RegularEnd.{deep-enough}
 use Rattle.wide.specs.Filling.{Holding}
 use Rattle.wide.specs.Attempted.{Attempted}
 use Rattle.wide.proofs.Unread.{row-read}
+use Rattle.wide.proofs.InOrder.{fixed-told}
 use Rattle.wide.proofs.Level.{short-open}
 use Rattle.wide.proofs.GuardBelow.{leads-held}
 use Rattle.twolimbs.specs.Two.{headIn, Brought}
@@ -176,18 +175,7 @@ module _ (p : ℕ) (pair : Pair) (u v n : ℕ) (room : Room p n) (long : 2 < n) 
           → Attempted o p x y exit negative (record { rule = 0; exponent = r .exponent; ternary = pos 0 }) k 1 1
       near-told negative sign k is =
           let t : Deep k = subst Deep (sym is) (deep (leb (pair .gap + pair .second) 64) refl) in
-          let top : topExponent x y ≡ x .exponent = top-is o p some-p x y 1 d (omega arith) in
-          record {
-            decides = record { zeros = λ e. absurd (true≢false (sym e ∙ rw (d .regular) refl)); deciding = λ e. depth-decided o p some-p x y (d .first) (d .second) k (t .some) (t .fixed) (t .first) };
-            bounded = omega (arith, t .most, deep-enough);
-            left = left;
-            signed = rw (answer, sign) (refl, exponent-some);
-            first-used = t .larger-used ∙ ap (λ (l : List ℕ). usedOf k 0 (length l)) (h .first-is) ∙ used-is x (topExponent x y) k 0 (d .first) (d .regular) (rw top (apart (x .exponent)));
-            second-used = t .other-used ∙ ap (λ (l : List ℕ). usedOf k (pair .gap) (length l)) (h .second-is) ∙ used-is y (topExponent x y) k (pair .gap) (d .second) (h .regular) (rw top (ap (λ (q : Pair). q .gap) (h .pair-is) ∙ pair-gap x y (h .regular)));
-          }
-        where
-          apart : (m : ℕ) → 0 ≡ m - m
-          apart m = omega arith
+          fixed-told p some-p pair (u ∷ []) (v ∷ []) x y h o (t .some) (omega (arith, t .most, deep-enough)) (t .fixed) (t .first) left (rw (answer, sign) (refl, exponent-some)) (t .larger-used, t .other-used)
 
       -- in either order of the caller
       pub near-tells : (negative : Bool) → negative ≡ x .negative → (k : ℕ) → k ≡ cond (leb (pair .gap + pair .second) 64) 1 2 → (swapped : Bool)

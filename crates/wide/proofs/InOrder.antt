@@ -20,6 +20,7 @@ use Rattle.rounding.proofs.Order.{le-or-lt}
 use Rattle.rounding.proofs.Zeros.{add-commutes}
 use Rattle.depth.specs.Bound.{deepest}
 use Rattle.depth.specs.Columns.{topExponent, limbsUsed}
+use Rattle.decide.specs.Decide.{decideAt}
 use Rattle.decide.proofs.Decision.{depth-decided}
 use Rattle.checks.specs.declared.Number.{Number}
 use Rattle.checks.specs.Number.{operandOf}
@@ -171,6 +172,25 @@ attempted-told o p m room x y r e false exit n placed k i j t = t
 
 -- ---- what fills the target is rounded
 
+-- what is told of two operands in order, by the columns that fix their sum, its answer and the limbs in those columns
+pub fixed-told : (p : ℕ) → 0 < p → (pair : Pair) (first second : List ℕ) (z w : Operand) → Holding z w pair first second → (o : Mode) {exit : List ℕ} {negative : Bool} {placed : Placed} {k i j : ℕ}
+    → 1 ≤ k → k ≤ deepest → decideAt o p z w k ≡ true → (1 < k → decideAt o p z w (k - 1) ≡ false) → Left p (add o p z w) exit placed → Signed negative (add o p z w)
+    → (i ≡ usedOf k 0 (length first)) × (j ≡ usedOf k (pair .gap) (length second)) → Attempted o p z w exit negative placed k i j
+fixed-told p P pair first second z w h o {exit} {negative} {placed} {k} {i} {j} some near fixed sooner left signed used =
+    let d : Ordered z w = h .course .ordered in
+    let top : topExponent z w ≡ z .exponent = top-is o p P z w 1 d (omega arith) in
+    record {
+      decides = record { zeros = λ e. absurd (true≢false (sym e ∙ rw (d .regular) refl)); deciding = λ e. depth-decided o p P z w (d .first) (d .second) k some fixed sooner };
+      bounded = near;
+      left = left;
+      signed = signed;
+      first-used = used .0 ∙ ap (λ (l : List ℕ). usedOf k 0 (length l)) (h .first-is) ∙ used-is z (topExponent z w) k 0 (d .first) (d .regular) (rw top (apart (z .exponent)));
+      second-used = used .1 ∙ ap (λ (l : List ℕ). usedOf k (pair .gap) (length l)) (h .second-is) ∙ used-is w (topExponent z w) k (pair .gap) (d .second) (h .regular) (rw top (ap (λ (s : Pair). s .gap) (h .pair-is) ∙ pair-gap z w (h .regular)));
+    }
+  where
+    apart : (n : ℕ) → 0 ≡ n - n
+    apart n = omega arith
+
 -- what fills it under any mode does so under each
 pub fills-by : (o : Mode) (negative : Bool) (p : ℕ) (pair : Pair) (first second exit : List ℕ) (r : Filled) → Fills p pair first second exit r → Offered pair first second → FillsBy o negative p pair first second exit r
 fills-by o negative p pair first second exit r fills held closed =
@@ -219,9 +239,6 @@ module _ (p : ℕ) (pair : Pair) (first second t : List ℕ) (room : Room p (len
     abbrev o : Mode
     o = modeOf mode
 
-    abbrev in-order : Ordered z w
-    in-order = h .course .ordered
-
     fits : runRule p (f .carry) t unit ≡ 0
     fits = fit (f .carry) (rounds .led)
 
@@ -231,20 +248,10 @@ module _ (p : ℕ) (pair : Pair) (first second t : List ℕ) (room : Room p (len
 
     pub in-order-told : {exit : List ℕ} {placed : Placed} {i j : ℕ} → placed ≡ roundedPlaced mode p negative unit (f .carry) t (f .guard) (f .more) → exit ≡ roundedLimbs mode p negative unit (f .carry) t (f .guard) (f .more)
         → (i ≡ usedOf (f .depth) 0 (length first)) × (j ≡ usedOf (f .depth) (pair .gap) (length second)) → Attempted o p z w exit negative placed (f .depth) i j
-    in-order-told {exit} {placed} {i} {j} a b c =
-        let P = digits-some p (length t) room in
-        let top : topExponent z w ≡ z .exponent = top-is o p P z w 1 in-order (omega arith) in
-        record {
-          decides = record { zeros = λ e. absurd (true≢false (sym e ∙ rw (in-order .regular) refl)); deciding = λ e. depth-decided o p P z w (in-order .first) (in-order .second) (f .depth) (rounds .some) (rounds .fixed) (rounds .first) };
-          bounded = rounds .near;
-          left = record { told = a ∙ placed-passed mode p negative unit (f .carry) t (f .guard) (f .more) fits ∙ ap placedOf run-is; limbs = b ∙ limbs-passed mode p negative unit (f .carry) t (f .guard) (f .more) fits ∙ ap (limbsAfter p) run-is };
-          signed = rw (sign, rounds .answer) (rounded-signed _ _ _ _ _);
-          first-used = c .0 ∙ ap (λ (l : List ℕ). usedOf (f .depth) 0 (length l)) (h .first-is) ∙ used-is z (topExponent z w) (f .depth) 0 (in-order .first) (in-order .regular) (rw top (apart (z .exponent)));
-          second-used = c .1 ∙ ap (λ (l : List ℕ). usedOf (f .depth) (pair .gap) (length l)) (h .second-is) ∙ used-is w (topExponent z w) (f .depth) (pair .gap) (in-order .second) (h .regular) (rw top (ap (λ (s : Pair). s .gap) (h .pair-is) ∙ pair-gap z w (h .regular)));
-        }
-      where
-        apart : (n : ℕ) → 0 ≡ n - n
-        apart n = omega arith
+    in-order-told a b c =
+        fixed-told p (digits-some p (length t) room) pair first second z w h o (rounds .some) (rounds .near) (rounds .fixed) (rounds .first)
+        (record { told = a ∙ placed-passed mode p negative unit (f .carry) t (f .guard) (f .more) fits ∙ ap placedOf run-is; limbs = b ∙ limbs-passed mode p negative unit (f .carry) t (f .guard) (f .more) fits ∙ ap (limbsAfter p) run-is })
+        (rw (sign, rounds .answer) (rounded-signed _ _ _ _ _)) c
 
 -- ---- what the code asks
 
