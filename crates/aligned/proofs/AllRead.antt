@@ -80,6 +80,47 @@ used w n h e = rw e (used-all n 0 n (omega arith) (whole n))
     whole : (m : ℕ) → m ≤ (64 * m - 0 + 63) / 64
     whole m = omega arith
 
+-- n columns, in which all is read of both; they are alike in the first z
+module _ (o : Mode) (p : ℕ) (P : 0 < p) (x y : Operand) (n z : ℕ) (a : Aligned x y n) (course : Course x y z) (within : z < n) (few : n ≤ 64) where
+  abbrev in-order : Ordered x y
+  in-order = course .ordered
+
+  columns-some : 1 ≤ n
+  columns-some = omega arith
+
+  pub columns-near : n ≤ deepest
+  columns-near = omega (arith, deep-enough)
+
+  pub leads-after : (k : ℕ) → z < k → Leads x y k
+  leads-after k h = subst (Leads x y) places (leads-later x y (suc z) (k - suc z) (course .larger))
+    where
+      places : suc z + (k - suc z) ≡ k
+      places = omega arith
+
+  all-fixed : decideAt o p x y n ≡ true
+  unfolding verdict
+  all-fixed = decision o p P x y n in-order columns-some (leads-after n within) ∙ ap (verdict o p x y n) (row x y n a)
+
+  pub all-answer : add o p x y ≡ rounded (way o (x .negative)) p (x .exponent - 64 * n - 1) (x .negative) (2 * readSum x y n + bit false)
+  unfolding settledBy moreOf
+  all-answer = row-sum o p P x y n in-order columns-some (leads-after n within) Exact (row x y n a) (columns-above x (a .first) (a .first-regular) n (omega (arith, columns-near))) refl
+
+  -- what is told of them, where one column fewer fixes nothing
+  pub all-told : (1 < n → decideAt o p x y (n - 1) ≡ false) → {exit : List ℕ} {negative : Bool} {placed : Placed} → Left p (add o p x y) exit placed → Signed negative (add o p x y) → Attempted o p x y exit negative placed n n n
+  all-told first left sign =
+      let top-told : topExponent x y ≡ x .exponent = top-is o p P x y 1 in-order (omega arith) in
+      record {
+        decides = record { zeros = λ h. absurd (true≢false (sym h ∙ rw (a .first-regular) refl)); deciding = λ h. depth-decided o p P x y (a .first) (a .second) n columns-some all-fixed first };
+        bounded = columns-near;
+        left = left;
+        signed = sign;
+        first-used = used x n columns-some (a .first-limbs) ∙ used-is x (topExponent x y) n 0 (a .first) (a .first-regular) (rw top-told (apart (x .exponent) (x .exponent) refl));
+        second-used = used y n columns-some (a .second-limbs) ∙ used-is y (topExponent x y) n 0 (a .second) (a .second-regular) (rw top-told (apart (x .exponent) (y .exponent) (a .even)));
+      }
+    where
+      apart : (m i : ℕ) → i ≡ m → 0 ≡ m - i
+      apart m i h = omega arith
+
 module _ (o : Mode) (p : ℕ) (x y : Operand) (n z top : ℕ) (s : Covered p x y n z top) where
   abbrev a : Aligned x y n
   a = s .aligned
@@ -101,24 +142,13 @@ module _ (o : Mode) (p : ℕ) (x y : Operand) (n z top : ℕ) (s : Covered p x y
   limbs-few = omega (arith, s .room .count, s .room .most)
 
   pub near : n ≤ deepest
-  near = omega (arith, limbs-few, deep-enough)
-
-  leads-after : (k : ℕ) → z < k → Leads x y k
-  leads-after k h = subst (Leads x y) places (leads-later x y (suc z) (k - suc z) (course .larger))
-    where
-      places : suc z + (k - suc z) ≡ k
-      places = omega arith
+  near = columns-near o p P x y n z a course (s .within) limbs-few
 
   pub leads-all : Leads x y n
-  leads-all = leads-after n (s .within)
-
-  pub fixed : decideAt o p x y n ≡ true
-  unfolding verdict
-  fixed = decision o p P x y n d some leads-all ∙ ap (verdict o p x y n) (row x y n a)
+  leads-all = leads-after o p P x y n z a course (s .within) limbs-few n (s .within)
 
   pub answer : add o p x y ≡ rounded (way o (x .negative)) p (x .exponent - 64 * n - 1) (x .negative) (2 * readSum x y n + bit false)
-  unfolding settledBy moreOf
-  answer = row-sum o p P x y n d some leads-all Exact (row x y n a) (columns-above x (a .first) (a .first-regular) n (omega (arith, near))) refl
+  answer = all-answer o p P x y n z a course (s .within) limbs-few
 
   -- ---- one column fewer
 
@@ -158,7 +188,7 @@ module _ (o : Mode) (p : ℕ) (x y : Operand) (n z top : ℕ) (s : Covered p x y
             less i j m h = omega arith
 
     parted-open : z < k → decideAt o p x y k ≡ false
-    parted-open h = short-open o p P x y k d K (leads-after k h) (a .second-regular) above (inland-sooner q n k (omega arith) (s .inland)) (omega (arith, no-gap x y n a)) unread short
+    parted-open h = short-open o p P x y k d K (leads-after o p P x y n z a course (s .within) limbs-few k h) (a .second-regular) above (inland-sooner q n k (omega arith) (s .inland)) (omega (arith, no-gap x y n a)) unread short
 
   pub first : 1 < n → decideAt o p x y (n - 1) ≡ false
   first more = elim (decLe (n - 1) z) [
@@ -169,16 +199,4 @@ module _ (o : Mode) (p : ℕ) (x y : Operand) (n z top : ℕ) (s : Covered p x y
   -- ---- what is told of it
 
   pub covered-told : {exit : List ℕ} {negative : Bool} {placed : Placed} → Left p (add o p x y) exit placed → Signed negative (add o p x y) → Attempted o p x y exit negative placed n n n
-  covered-told left sign =
-      let top-told : topExponent x y ≡ x .exponent = top-is o p P x y 1 d (omega arith) in
-      record {
-        decides = record { zeros = λ h. absurd (true≢false (sym h ∙ rw (a .first-regular) refl)); deciding = λ h. depth-decided o p P x y (a .first) (a .second) n some fixed first };
-        bounded = near;
-        left = left;
-        signed = sign;
-        first-used = used x n some (a .first-limbs) ∙ used-is x (topExponent x y) n 0 (a .first) (a .first-regular) (rw top-told (apart (x .exponent) (x .exponent) refl));
-        second-used = used y n some (a .second-limbs) ∙ used-is y (topExponent x y) n 0 (a .second) (a .second-regular) (rw top-told (apart (x .exponent) (y .exponent) (a .even)));
-      }
-    where
-      apart : (m i : ℕ) → i ≡ m → 0 ≡ m - i
-      apart m i h = omega arith
+  covered-told left sign = all-told o p P x y n z a course (s .within) limbs-few first left sign

@@ -2,7 +2,7 @@
 use mathlib.Core.Path.{_≡_, refl, sym, ap, _∙_, subst}
 use mathlib.Core.Bool.{Bool}
 use mathlib.Core.List.{List}
-use Prim.Native.Nat.{ℕ, _-_, max}
+use Prim.Native.Nat.{ℕ, _-_, _<_, max}
 use native.Mathlib.Omega.{arith}
 use lib.IntN.{pos}
 use lib.ListN.{length, drop, replicate}
@@ -15,7 +15,6 @@ use Rattle.place.specs.declared.Placed.{Placed}
 use Rattle.place.specs.Placed.{placedOf, limbsAfter}
 use Rattle.columns.specs.Column.{readTo}
 use Rattle.descent.specs.Ready.{Room}
-use Rattle.descent.proofs.GoingDown.{room-some}
 use Rattle.ending.specs.Finishing.{Left}
 use Rattle.ending.specs.Level.{Level}
 use Rattle.ending.proofs.Cancelled.{near, depth-told, sum, first-used, second-used}
@@ -39,7 +38,8 @@ sign-of o {a} {b} {u} {v} i j = rw (i, j) refl
 
 -- ---- their sum
 
-module _ (o : Mode) (p n : ℕ) (x y : Operand) (room : Room p n) (c : Cancelling x y n) where
+-- in a target of m limbs
+module _ (o : Mode) (p m n : ℕ) (x y : Operand) (room : Room p m) (some : 0 < n) (c : Cancelling x y n) where
   abbrev a : Aligned x y n
   a = c .aligned
 
@@ -56,20 +56,19 @@ module _ (o : Mode) (p n : ℕ) (x y : Operand) (room : Room p n) (c : Cancellin
   alike = read-level x y n a (c .level)
 
   -- a cleared target is what a zero leaves
-  zero-left : (negative : Bool) {exit : List ℕ} {placed : Placed} → placed ≡ record { rule = 0; exponent = 0; ternary = pos 0 } → exit ≡ replicate n 0 → Left p (zeroOf negative) exit placed
+  zero-left : (negative : Bool) {exit : List ℕ} {placed : Placed} → placed ≡ record { rule = 0; exponent = 0; ternary = pos 0 } → exit ≡ replicate m 0 → Left p (zeroOf negative) exit placed
   unfolding placedOf limbsAfter
-  zero-left negative e f = record { told = e; limbs = f ∙ ap (λ (m : ℕ). replicate m 0) (room .count) }
+  zero-left negative e f = record { told = e; limbs = f ∙ ap (λ (j : ℕ). replicate j 0) (room .count) }
 
   -- what is told of it
-  pub cancelled-told : {exit : List ℕ} {negative : Bool} {placed : Placed} → negative ≡ zeroSign o (x .negative) (y .negative) → placed ≡ record { rule = 0; exponent = 0; ternary = pos 0 } → exit ≡ replicate n 0 → Attempted o p x y exit negative placed n n n
+  pub cancelled-told : {exit : List ℕ} {negative : Bool} {placed : Placed} → negative ≡ zeroSign o (x .negative) (y .negative) → placed ≡ record { rule = 0; exponent = 0; ternary = pos 0 } → exit ≡ replicate m 0 → Attempted o p x y exit negative placed n n n
   cancelled-told {exit} {negative} {placed} s e f =
-      let zero = sum o p n room x y level n all alike in
-      let some = room-some p n room in
+      let zero = sum o p m room x y level n all alike in
       record {
-        decides = depth-told o p n room x y level n all alike;
-        bounded = near o p n room x y level n all alike;
+        decides = depth-told o p m room x y level n all alike;
+        bounded = near o p m room x y level n all alike;
         left = subst (λ (b : Answer). Left p b exit placed) (sym zero) (zero-left (zeroSign o (x .negative) (y .negative)) e f);
         signed = subst (Signed negative) (sym zero) (sym s);
-        first-used = used x n some (a .first-limbs) ∙ first-used o p n room x y level n all alike;
-        second-used = used y n some (a .second-limbs) ∙ second-used o p n room x y level n all alike;
+        first-used = used x n some (a .first-limbs) ∙ first-used o p m room x y level n all alike;
+        second-used = used y n some (a .second-limbs) ∙ second-used o p m room x y level n all alike;
       }

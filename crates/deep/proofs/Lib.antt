@@ -2,3 +2,4 @@ pub mod Opening
 pub mod ReadingOn
 pub mod Closing
 pub mod FillingTarget
+pub mod LowerLimbs

@@ -1,2 +1,3 @@
 pub mod Deep
 pub mod Reading
+pub mod Lower
