@@ -1,8 +1,8 @@
 -- What the tests tell of two operands, and their limbs and counts in either order. Assumes nothing.
 use mathlib.Core.Path.{_≡_, refl, sym, ap, _∙_}
-use mathlib.Core.Bool.{Bool, true, false, cond, _&&_}
+use mathlib.Core.Bool.{Bool, true, false, not, cond, _&&_, Bool·beq}
 use mathlib.Core.List.{List}
-use Prim.Native.Nat.{ℕ, _+_, _*_, _^_, _≤_, _<_}
+use Prim.Native.Nat.{ℕ, _+_, _-_, _*_, _^_, _≤_, _<_}
 use native.Mathlib.Omega.{arith}
 use lib.IntN.{ℤ}
 use mir.Syntax.{w32}
@@ -10,7 +10,9 @@ use mir.Val.{SFits, toZ, ofZ}
 use mir.Facts.{toZ-ofZ}
 use borrow.Author.Tests.{eqb-true, leb-true, ltb-true}
 use lib.Dec.{leb, ltb, eqb}
-use Rattle.numbers.specs.Operand.{Operand}
+use lib.ListN.{length, getD}
+use Rattle.numbers.specs.Limits.{counted}
+use Rattle.numbers.specs.Operand.{Operand, WellFormed}
 use Rattle.rounding.specs.Mode.{Mode}
 use Rattle.limb.proofs.Tests.{both-true}
 use Rattle.checks.specs.declared.Number.{Number}
@@ -23,7 +25,9 @@ use Rattle.wide.specs.Attempted.{Attempted}
 use Rattle.wide.proofs.FullTarget.{offered-modest}
 use Rattle.wide.proofs.InHollow.{sum-fits}
 use Rattle.wide.proofs.InOrder.{limbs-weigh}
+use Rattle.aligned.proofs.AsFound.{unlike-is}
 use Rattle.deep.specs.Deep.{Deep}
+use Rattle.deep.specs.Lower.{Lower, Lowered}
 
 -- ---- what the tests tell
 
@@ -42,6 +46,12 @@ short-told m k n h =
     let a = both-true (eqb m 1 && eqb k 1) (ltb 2 n) h in
     let b = both-true (eqb m 1) (eqb k 1) (a .0) in
     (eqb-true m 1 (b .0), eqb-true k 1 (b .1), ltb-true 2 n (a .1))
+
+pub lower-told : (m k n : ℕ) → ((eqb m 2 && eqb k 2) && eqb n 1) ≡ true → (m ≡ 2) × (k ≡ 2) × (n ≡ 1)
+lower-told m k n h =
+    let a = both-true (eqb m 2 && eqb k 2) (eqb n 1) h in
+    let b = both-true (eqb m 2) (eqb k 2) (a .0) in
+    (eqb-true m 2 (b .0), eqb-true k 2 (b .1), eqb-true n 1 (a .1))
 
 pub near-told : (first second n gap : ℕ) → (((eqb first n && eqb second n) && ltb 0 gap) && ltb gap 64) ≡ true → (first ≡ n) × (second ≡ n) × (0 < gap) × (gap < 64)
 near-told first second n gap h =
@@ -71,6 +81,28 @@ deep-told p pair h =
 
 pub deep-asked : (p n : ℕ) (pair : Pair) (first second : List ℕ) → Room p n → Offered pair first second → pair .gap + pair .second < 2 ^ 64
 deep-asked p n pair first second room held = let m = offered-modest p pair first second held n 0 room (omega arith) in omega (arith, m .gap, m .second)
+
+-- two numbers of two limbs each that exponents and top limbs do not tell apart, and have to
+module _ (x : Number) (xl : List ℕ) (y : Number) (yl : List ℕ) (gx : WellFormed (operandOf x xl)) (rx : operandOf x xl .isZero ≡ false) (gy : WellFormed (operandOf y yl)) (ry : operandOf y yl .isZero ≡ false)
+    (a b : ℕ) (ae : a ≡ counted (x .exponent)) (be : b ≡ counted (y .exponent)) (even : Bool) (even-is : even ≡ (not (Bool·beq (x .negative) (y .negative)) && (eqb a b && eqb (getD xl (length xl - 1) 0) (getD yl (length yl - 1) 0)))) (level : even ≡ true)
+    (m : length xl ≡ 2) (k : length yl ≡ 2) where
+  pub lower-held : Lower (operandOf x xl) (operandOf y yl) (getD xl 0 0) (getD yl 0 0) a
+  unfolding operandOf
+  lower-held =
+      let t = both-true (not (Bool·beq (x .negative) (y .negative))) (eqb a b && eqb (getD xl (length xl - 1) 0) (getD yl (length yl - 1) 0)) (sym even-is ∙ level) in
+      let q = both-true (eqb a b) (eqb (getD xl (length xl - 1) 0) (getD yl (length yl - 1) 0)) (t .1) in
+      let tops = eqb-true (getD xl (length xl - 1) 0) (getD yl (length yl - 1) 0) (q .1) in
+      record {
+        aligned = record { first = gx; second = gy; first-regular = rx; second-regular = ry; even = sym be ∙ sym (eqb-true a b (q .0)) ∙ ae; first-limbs = m; second-limbs = k };
+        unlike = unlike-is _ (t .0);
+        level = rw (m, k) at tops;
+        first-low = refl;
+        second-low = refl;
+        top-is = ae;
+      }
+
+  pub lower-offered : Lowered (getD xl 0 0) (getD yl 0 0) a
+  lower-offered = record { first = operandOf x xl; second = operandOf y yl; lower = lower-held }
 
 -- ---- in either order
 

@@ -50,6 +50,13 @@ fn is_short(m: usize, k: usize, n: usize) -> bool
     (m == 1) & (k == 1) & (2 < n)
 }
 
+// Whether two operands have two limbs each, and the target one.
+fn is_lower(m: usize, k: usize, n: usize) -> bool
+    ensures { λ r. ⌜ (r ≡ true → (m ≡ 2) × (k ≡ 2) × (n ≡ 1)) ⌝ }
+{
+    (m == 2) & (k == 2) & (n == 1)
+}
+
 // The same with the counts exchanged, where so said.
 fn exchanged_if(swapped: bool, r: Attempt) -> Attempt
     ensures { λ s. ⌜ (s .open ≡ r .open) × (s .negative ≡ r .negative) × (s .placed ≡ r .placed) × (s .depth ≡ r .depth) × (s .first ≡ cond swapped (r .second) (r .first)) × (s .second ≡ cond swapped (r .first) (r .second)) ⌝ }
@@ -184,7 +191,7 @@ fn read_as_said<'a>(
     read_in_order(mode, negative, p, pair, swapped, first, second, target)
 }
 
-// Adds two regular numbers, where the columns that fill the target, or one more, fix the answer.
+// Adds two regular numbers, where the columns that fill the target, or one more, fix the answer. Where their top limbs do not tell which is larger it is left open, but for two limbs each and a target of one.
 fn add_regular<'a>(
     mode: u8,
     x: Number,
@@ -203,6 +210,9 @@ fn add_regular<'a>(
     let b = checks::counted_exponent(y.exponent);
     let same = x.negative == y.negative;
     if is_level(same, a, b, u, v) {
+        if is_lower(xl.len(), yl.len(), target.len()) {
+            return deep::subtract_lower(mode, x.negative, p, a, xl[0], yl[0], target);
+        }
         return nothing();
     }
     let swapped = is_second_larger(a, b, u, v);
