@@ -2,15 +2,13 @@
 use mathlib.Core.Path.{_≡_, refl, sym, ap, _∙_}
 use mathlib.Core.Bool.{Bool, true, false, not, _&&_, true≢false}
 use mathlib.Core.List.{List}
-use Prim.Native.Nat.{ℕ, _+_, _/_, _≤_}
+use Prim.Native.Nat.{ℕ, _≤_}
 use native.Mathlib.Omega.{arith}
 use borrow.Author.Tests.{leb-true}
 use lib.Dec.{leb}
 use lib.ListN.{length, set}
 use Rattle.limb.proofs.Value.{one-written}
-use Rattle.numbers.specs.Limits.{limbsFor}
 use Rattle.numbers.specs.Operand.{Operand, WellFormed}
-use Rattle.numbers.proofs.Limits.{two-digits}
 use Rattle.rounding.specs.Mode.{Mode, modeOf}
 use Rattle.rounding.specs.Answer.{Answer}
 use Rattle.rounding.specs.Sum.{add}
@@ -25,6 +23,7 @@ use Rattle.narrow.specs.declared.looking.Sight.{Sight}
 use Rattle.narrow.specs.Looked.{Looked}
 use Rattle.wide.specs.declared.told.Attempt.{Attempt}
 use Rattle.wide.specs.Attempted.{Attempted}
+use Rattle.deep.proofs.FillingTarget.{one-limb}
 use Rattle.reports.specs.declared.report.Sum.{Sum}
 use Rattle.reports.specs.Summed.{sumOf, Reported}
 use Rattle.reports.proofs.Told.{sum-depth}
@@ -38,11 +37,6 @@ narrow-told p {a} {b} e f h = let t = go (leb p 62) a b h in (leb-true p 62 (t .
     go true false true h = absurd (true≢false (sym h))
     go true true b h = absurd (true≢false (sym h))
     go false a b h = absurd (true≢false (sym h))
-
--- so few digits take one limb
-pub one-limb : (p n : ℕ) → Room p n → p ≤ 62 → n ≡ 1
-unfolding limbsFor
-one-limb p n room h = let a : n ≡ (p + 63) / 64 = room .count in omega (arith, two-digits, room .least)
 
 pub looked-reported : (o : Mode) (p : ℕ) (x y : Operand) (sight : Sight) (entry : List ℕ) {s : Sum} → Room p (length entry) → p ≤ 62 → Looked o p x y sight
     → ((a : Answer) → Signed (sight .negative) a → sight .seen .placed ≡ placedOf a → s ≡ sumOf a p 1 (sight .first) (sight .second))

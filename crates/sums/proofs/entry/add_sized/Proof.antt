@@ -5,7 +5,8 @@ use native.Mathlib.Omega.{arith}
 use borrow.Author.Needs.{needs}
 use borrow.Author.Tests.{not-true}
 use Rattle.descent.specs.Ready.{Room}
-use Rattle.sums.proofs.AtOnce.{one-limb, looked-reported, attempted-reported, copies-ready, copies-reported}
+use Rattle.deep.proofs.FillingTarget.{one-limb}
+use Rattle.sums.proofs.AtOnce.{looked-reported, attempted-reported, copies-ready, copies-reported}
 use Rattle.sums.proofs.Entries.{kind-told, pair-ready, pair-refused, pair-reported}
 use Rattle.sums.proofs.entry.add_sized.Statement.{statement}
 use Rattle.sums.proofs.entry.add_sized.Tie as tie

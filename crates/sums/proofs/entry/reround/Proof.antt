@@ -4,7 +4,8 @@ use mathlib.Core.Path.{refl}
 use native.Mathlib.Omega.{arith}
 use borrow.Author.Needs.{needs}
 use borrow.Author.Tests.{not-true}
-use Rattle.sums.proofs.AtOnce.{one-limb, looked-reported, copy-formed, copy-kind, copy-doubled, copy-alone}
+use Rattle.deep.proofs.FillingTarget.{one-limb}
+use Rattle.sums.proofs.AtOnce.{looked-reported, copy-formed, copy-kind, copy-doubled, copy-alone}
 use Rattle.sums.proofs.Entries.{kind-told, single-ready, single-refused, zero-rerounded, regular-rerounded}
 use Rattle.sums.proofs.entry.reround.Statement.{statement}
 use Rattle.sums.proofs.entry.reround.Tie as tie
