@@ -8,3 +8,4 @@ pub mod ByValue
 pub mod ExactDifference
 pub mod AsFound
 pub mod FewFound
+pub mod LowerLimbs

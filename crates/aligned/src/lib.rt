@@ -20,9 +20,11 @@ ghost use Rattle.wide.specs.Attempted.{Attempted};
 ghost use Rattle.aligned.specs.Aligned.{Aligned, Cancelling, Alike, Reducible, Subtracted, Standing};
 
 mod few; // few.rt: one or two limbs, by value
+mod level; // level.rt: two limbs each that are alike in the upper one, into one limb
 
 use checks::Number;
 use choice::either_run;
+pub use level::subtract_lower;
 use place::Placed;
 use wide::Attempt;
 use wide::nothing;

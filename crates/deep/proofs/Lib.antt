@@ -2,4 +2,3 @@ pub mod Opening
 pub mod ReadingOn
 pub mod Closing
 pub mod FillingTarget
-pub mod LowerLimbs

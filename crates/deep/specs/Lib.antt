@@ -1,3 +1,2 @@
 pub mod Deep
 pub mod Reading
-pub mod Lower

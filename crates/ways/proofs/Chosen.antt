@@ -27,7 +27,7 @@ use Rattle.wide.proofs.InHollow.{sum-fits}
 use Rattle.wide.proofs.InOrder.{limbs-weigh}
 use Rattle.aligned.proofs.AsFound.{unlike-is}
 use Rattle.deep.specs.Deep.{Deep}
-use Rattle.deep.specs.Lower.{Lower, Lowered}
+use Rattle.aligned.specs.Lower.{Lower, Lowered}
 
 -- ---- what the tests tell
 

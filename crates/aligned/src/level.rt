@@ -11,7 +11,7 @@ ghost use Rattle.numbers.specs.Operand.{Operand};
 ghost use Rattle.rounding.specs.Mode.{modeOf};
 ghost use Rattle.descent.specs.Ready.{Room};
 ghost use Rattle.wide.specs.Attempted.{Attempted};
-ghost use Rattle.deep.specs.Lower.{Lower, Lowered};
+ghost use Rattle.aligned.specs.Lower.{Lower, Lowered};
 use choice::either;
 use place::Placed;
 use wide::Attempt;

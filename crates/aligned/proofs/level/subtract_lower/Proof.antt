@@ -1,10 +1,10 @@
--- `deep::level::subtract_lower` is right since what the lower limbs leave is all that there is of the difference, a zero or a limb that is rounded once. Assumes nothing.
+-- `aligned::level::subtract_lower` is right since what the lower limbs leave is all that there is of the difference, a zero or a limb that is rounded once. Assumes nothing.
 use mathlib.Core.Path.{refl, _∙_}
 use lib.ListN.{length-set}
-use Rattle.deep.proofs.LowerLimbs.{apart, unit-room, lower-fit, zero-told, difference-told}
+use Rattle.aligned.proofs.LowerLimbs.{apart, unit-room, lower-fit, zero-told, difference-told}
 use borrow.Author.Needs.{needs}
-use Rattle.deep.proofs.level.subtract_lower.Statement.{statement}
-use Rattle.deep.proofs.level.subtract_lower.Tie as tie
+use Rattle.aligned.proofs.level.subtract_lower.Statement.{statement}
+use Rattle.aligned.proofs.level.subtract_lower.Tie as tie
 
 either-requires : tie.Need-either-requires
 either-requires c κs = search needs

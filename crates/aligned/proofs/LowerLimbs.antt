@@ -36,12 +36,12 @@ use Rattle.ending.proofs.Handed.{beq-turned}
 use Rattle.ending.proofs.RegularEnd.{deep-enough, rounded-signed}
 use Rattle.wide.specs.Attempted.{Attempted}
 use Rattle.wide.proofs.InOrder.{attempted-turned}
 use Rattle.aligned.specs.Aligned.{Aligned, Cancelling}
 use Rattle.aligned.proofs.AllRead.{all-answer, all-told}
 use Rattle.aligned.proofs.Parting.{Parted, alike-more, alike-none, course-parted, difference-below}
 use Rattle.aligned.proofs.Cancels.{cancelled-told, sign-of}
 use Rattle.aligned.proofs.Stands.{aligned-turned, sign-told}
-use Rattle.deep.specs.Lower.{Lower, Lowered}
+use Rattle.aligned.specs.Lower.{Lower, Lowered}
 
 -- ---- the limbs
 
