@@ -7,7 +7,7 @@ ghost use mathlib.Core.Bool.{true, false, _&&_};
 ghost use Prim.Native.Nat.{_<_};
 ghost use lib.ListN.{length};
 ghost use Rattle.checks.specs.Number.{operandOf};
-ghost use Rattle.checks.specs.Check.{accepted, modeHolds, topBitHolds, spareBitsHold, pairRefusal, singleRefusal, comparedRefusal, convertedRefusal, aloneRefusal};
+ghost use Rattle.checks.specs.Check.{accepted, modeHolds, topBitHolds, spareBitsHold, pairRefusal, singleRefusal, convertedRefusal, aloneRefusal};
 ghost use Rattle.checks.specs.Passes.{TargetPasses, Passes};
 ghost use Rattle.admission.specs.Sizes.{SizesPass};
 
@@ -37,7 +37,7 @@ pub fn sizes_pass(a: u64, m: usize, b: u64, k: usize, p: u64, n: usize) -> bool
 // Whether the limbs of a regular number pass test 5.
 fn limbs_pass(p: u64, l: &[u64]) -> bool
     requires { ⌜ 0 < length (now l) ⌝ }
-    ensures { λ r. ⌜ (r ≡ true → topBitHolds (now (l .entry)) && spareBitsHold p (now (l .entry)) ≡ true) ⌝ }
+    ensures { λ r. ⌜ r ≡ topBitHolds (now (l .entry)) && spareBitsHold p (now (l .entry)) ⌝ }
 {
     if l[l.len() - 1] < checks::FIRST_DIGIT {
         return false;
@@ -48,7 +48,7 @@ fn limbs_pass(p: u64, l: &[u64]) -> bool
 // Whether an operand that passes tests 2 and 3 passes tests 4 and 5.
 fn value_passes(x: Number, l: &[u64]) -> bool
     requires { ⌜ TargetPasses (x .precision) (length (now l)) ⌝ }
-    ensures { λ r. ⌜ (r ≡ true → Passes (operandOf x (now (l .entry)))) ⌝ }
+    ensures { λ r. ⌜ (r ≡ true → Passes (operandOf x (now (l .entry)))) × (r ≡ false → Passes (operandOf x (now (l .entry))) → ⊥) ⌝ }
 {
     if !checks::exponent_holds(x) {
         return false;
@@ -60,23 +60,13 @@ fn value_passes(x: Number, l: &[u64]) -> bool
 }
 
 // Whether an operand passes tests 2 to 5.
-fn passes(x: Number, l: &[u64]) -> bool
-    ensures { λ r. ⌜ (r ≡ true → Passes (operandOf x (now (l .entry)))) ⌝ }
+pub fn passes(x: Number, l: &[u64]) -> bool
+    ensures { λ r. ⌜ (r ≡ true → Passes (operandOf x (now (l .entry)))) × (r ≡ false → Passes (operandOf x (now (l .entry))) → ⊥) ⌝ }
 {
     if !target_passes(x.precision, l.len()) {
         return false;
     }
     value_passes(x, l)
-}
-
-// Whether two operands pass.
-fn both_pass(x: Number, xl: &[u64], y: Number, yl: &[u64]) -> bool
-    ensures { λ r. ⌜ (r ≡ true → Passes (operandOf x (now (xl .entry))) × Passes (operandOf y (now (yl .entry)))) ⌝ }
-{
-    if !passes(x, xl) {
-        return false;
-    }
-    passes(y, yl)
 }
 
 // Whether a mode and an operand pass.
@@ -157,16 +147,6 @@ pub fn check_single(mode: u8, x: Number, xl: &[u64], p: u64, n: usize) -> Refusa
     }
     let alike = checks::copied(x);
     refusals::refuse(mode, alike, xl, alike, xl, p, n)
-}
-
-// Refusals 2 to 5 of two operands, without a mode or a target.
-pub fn check_compared(x: Number, xl: &[u64], y: Number, yl: &[u64]) -> Refusal
-    ensures { λ r. ⌜ r ≡ comparedRefusal (operandOf x (now (xl .entry))) (operandOf y (now (yl .entry))) ⌝ }
-{
-    if both_pass(x, xl, y, yl) {
-        return Refusal { rule: 0, place: 0 };
-    }
-    refusals::refuse_operands(0, checks::copied(x), &xl[..], checks::copied(y), &yl[..])
 }
 
 // Refusals 1 to 5 of one operand under a mode, without a target.

@@ -155,13 +155,16 @@ module _ (mode : ℕ) (x : Operand) (p n : ℕ) where
   single-accepted g = single-passes mode x p n (range-mode mode (g .mode-small)) (well-formed-passes x (g .only)) (target-passes p n (g .target))
 
 module _ (x y : Operand) where
-  pub accepted-compared : Below (2 ^ 64) (x .limbs) → Below (2 ^ 64) (y .limbs) → comparedRefusal x y ≡ accepted → WellFormed x × WellFormed y
+  pub accepted-both : comparedRefusal x y ≡ accepted → Passes x × Passes y
   unfolding comparedRefusal
-  accepted-compared wx wy e =
+  accepted-both e =
       let h = accepted-all _ refl e in (
-        passes-well-formed x wx (record { precision = h .0; limbs = h .1 .1 .0; exponent = h .1 .1 .1 .1 .0; form = h .1 .1 .1 .1 .1 .1 .0 }),
-        passes-well-formed y wy (record { precision = h .1 .0; limbs = h .1 .1 .1 .0; exponent = h .1 .1 .1 .1 .1 .0; form = h .1 .1 .1 .1 .1 .1 .1 .0 }),
+        record { precision = h .0; limbs = h .1 .1 .0; exponent = h .1 .1 .1 .1 .0; form = h .1 .1 .1 .1 .1 .1 .0 },
+        record { precision = h .1 .0; limbs = h .1 .1 .1 .0; exponent = h .1 .1 .1 .1 .1 .0; form = h .1 .1 .1 .1 .1 .1 .1 .0 },
       )
+
+  pub accepted-compared : Below (2 ^ 64) (x .limbs) → Below (2 ^ 64) (y .limbs) → comparedRefusal x y ≡ accepted → WellFormed x × WellFormed y
+  accepted-compared wx wy e = let h = accepted-both e in (passes-well-formed x wx (h .0), passes-well-formed y wy (h .1))
 
   pub compared-accepted : WellFormed x → WellFormed y → comparedRefusal x y ≡ accepted
   compared-accepted g h = compared-passes x y (well-formed-passes x g) (well-formed-passes y h)

@@ -6,8 +6,8 @@ use Prim.Native.Nat.{ℕ, _+_, _-_, _/_, _^_, _≤_, _<_}
 use native.Mathlib.Omega.{arith}
 use lib.Dec.{eqb}
 use lib.ListN.{length, getD}
-use borrow.Author.Tests.{leb-true, le-leb, eqb-true}
-use Rattle.limb.proofs.Tests.{both-true}
+use borrow.Author.Tests.{leb-true, le-leb, lt-leb, eqb-true}
+use Rattle.limb.proofs.Tests.{both-true, true-false}
 use Rattle.numbers.specs.Limits.{leastPrecision, limbsFor}
 use Rattle.numbers.specs.Operand.{Operand}
 use Rattle.checks.specs.declared.Number.{Number}
@@ -43,9 +43,14 @@ pub sized-passes : (p n : ℕ) → precisionHolds p ≡ true → eqb n ((p + 63)
 unfolding lengthHolds limbsFor
 sized-passes p n h k = record { precision = h; limbs = k }
 
-pub limbs-hold : (p : ℕ) (l : List ℕ) (b : Bool) → 2 ^ 63 ≤ getD l (length l - 1) 0 → b ≡ spareBitsHold p (getD l 0 0 ∷ []) → b ≡ true → topBitHolds l && spareBitsHold p l ≡ true
+-- the top limb decides, or the lowest does
+pub top-fails : (p : ℕ) (l : List ℕ) → getD l (length l - 1) 0 < 2 ^ 63 → false ≡ topBitHolds l && spareBitsHold p l
+unfolding topBitHolds
+top-fails p l h = simp (lt-leb (2 ^ 63) (getD l (length l - 1) 0) h)
+
+pub low-decides : (p : ℕ) (l : List ℕ) (b : Bool) → 2 ^ 63 ≤ getD l (length l - 1) 0 → b ≡ spareBitsHold p (getD l 0 0 ∷ []) → b ≡ topBitHolds l && spareBitsHold p l
 unfolding topBitHolds spareBitsHold
-limbs-hold p l b h e t = simp (le-leb (2 ^ 63) (getD l (length l - 1) 0) h, sym e ∙ t)
+low-decides p l b h e = e ∙ simp (le-leb (2 ^ 63) (getD l (length l - 1) 0) h)
 
 pub some-limb : (p n : ℕ) → TargetPasses p n → 0 < n
 unfolding precisionHolds lengthHolds leastPrecision limbsFor
@@ -59,6 +64,16 @@ module _ (x : Number) (l : List ℕ) (t : TargetPasses (x .precision) (length l)
   pub regular-passes : isZeroKind (x .kind) ≡ false → topBitHolds l && spareBitsHold (x .precision) l ≡ true → Passes (operandOf x l)
   unfolding operandOf exponentHolds formHolds
   regular-passes z f = record { precision = t .precision; limbs = t .limbs; exponent = e; form = rw z f }
+
+-- an operand of which a test fails does not pass
+module _ (x : Number) (l : List ℕ) where
+  pub exponent-fails : exponentHolds (operandOf x []) ≡ false → Passes (operandOf x l) → ⊥
+  unfolding operandOf exponentHolds
+  exponent-fails e t = true-false (t .exponent) e
+
+  pub limbs-fail : isZeroKind (x .kind) ≡ false → topBitHolds l && spareBitsHold (x .precision) l ≡ false → Passes (operandOf x l) → ⊥
+  unfolding operandOf formHolds
+  limbs-fail z f t = true-false (rw z at (t .form)) f
 
 -- a refusal of copies
 pub copies-refused : {a b x y : Number} {r : Refusal} (mode : ℕ) (xl yl : List ℕ) (p n : ℕ) → r ≡ pairRefusal mode (operandOf a xl) (operandOf b yl) p n → a ≡ x → b ≡ y → r ≡ pairRefusal mode (operandOf x xl) (operandOf y yl) p n

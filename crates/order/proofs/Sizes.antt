@@ -17,7 +17,7 @@ use Rattle.numbers.proofs.Digits.{digits-and-spare, mantissa-lt, mantissa-ge, p
 use Rattle.rounding.specs.Sum.{scale, amount, share}
 use Rattle.rounding.proofs.Order.{le-or-lt, Cmp, cmp, compare-at}
 use Rattle.order.specs.Order.{orderOf}
-use Rattle.order.specs.Steps.{orElse, alignedOrder, regularOrder, sizeOrder, apartOrder, reversed, signedOrder}
+use Rattle.order.specs.Steps.{orElse, alignedOrder, regularOrder, sizeOrder, reversed, reversedIf, sameOrder, apartOrder, signedOrder}
 
 -- ---- comparing in another unit
 
@@ -181,7 +181,7 @@ module _ (x y : Operand) (g : WellFormed x) (k : WellFormed y) where
 
   -- the order as it is found is that of the exact values
   pub order-found : orderOf x y ≡ signedOrder x y
-  unfolding signedOrder apartOrder
+  unfolding signedOrder sameOrder reversedIf apartOrder
   order-found = go (x .negative) (y .negative) refl refl
     where
       go : (a b : Bool) → x .negative ≡ a → y .negative ≡ b → orderOf x y ≡ cond (Bool·beq a b) (cond a (reversed (sizeOrder x y)) (sizeOrder x y)) (cond (x .isZero && y .isZero) Ordering·eq (cond a Ordering·lt Ordering·gt))

@@ -1,6 +1,6 @@
 -- The order as it is found: signs, zeros, exponents, then limbs from the top. Definitions only.
 use Prim.Native.Nat.{ℕ, _-_, _*_, _^_, compare, Ordering, Ordering·lt, Ordering·eq, Ordering·gt}
-use mathlib.Core.Bool.{cond, _&&_, Bool·beq}
+use mathlib.Core.Bool.{Bool, cond, _&&_, Bool·beq}
 use mathlib.Core.List.{List}
 use lib.Dec.{ltb}
 use lib.ListN.{length, getD}
@@ -31,10 +31,6 @@ regularOrder x y = orElse (compare (x .exponent) (y .exponent)) (alignedOrder (x
 unfoldable pub sizeOrder : Operand → Operand → Ordering
 sizeOrder x y = cond (x .isZero) (cond (y .isZero) Ordering·eq Ordering·lt) (cond (y .isZero) Ordering·gt (regularOrder x y))
 
--- of two numbers of different signs
-unfoldable pub apartOrder : Operand → Operand → Ordering
-apartOrder x y = cond (x .isZero && y .isZero) Ordering·eq (cond (x .negative) Ordering·lt Ordering·gt)
-
 -- the order of the same two, the other way round
 unfoldable pub reversed : Ordering → Ordering
 reversed Ordering·lt = Ordering·gt
@@ -46,6 +42,18 @@ turnedCase Less = Greater
 turnedCase Equal = Equal
 turnedCase Greater = Less
 
+-- an order, turned round where so said
+unfoldable pub reversedIf : Bool → Ordering → Ordering
+reversedIf turn o = cond turn (reversed o) o
+
+-- of two numbers of one sign: of two negative ones the larger in size is below
+unfoldable pub sameOrder : Operand → Operand → Ordering
+sameOrder x y = reversedIf (x .negative) (sizeOrder x y)
+
+-- of two numbers of different signs
+unfoldable pub apartOrder : Operand → Operand → Ordering
+apartOrder x y = cond (x .isZero && y .isZero) Ordering·eq (cond (x .negative) Ordering·lt Ordering·gt)
+
 -- of any two
 unfoldable pub signedOrder : Operand → Operand → Ordering
-signedOrder x y = cond (Bool·beq (x .negative) (y .negative)) (cond (x .negative) (reversed (sizeOrder x y)) (sizeOrder x y)) (apartOrder x y)
+signedOrder x y = cond (Bool·beq (x .negative) (y .negative)) (sameOrder x y) (apartOrder x y)

@@ -2,13 +2,14 @@
 use checks::Number;
 use checks::Refusal;
 ghost use mathlib.Core.Path.{_≡_};
-ghost use mathlib.Core.Bool.{cond};
+ghost use mathlib.Core.Bool.{true, cond, _||_};
 ghost use mathlib.Core.List.{[]};
 ghost use Prim.Native.Nat.{_+_, _≤_};
 ghost use lib.ListN.{length};
-ghost use Rattle.checks.specs.Number.{operandOf};
+ghost use Rattle.checks.specs.Number.{isZeroKind, operandOf};
+ghost use Rattle.checks.specs.Passes.{Passes};
 ghost use Rattle.order.specs.Order.{caseOf, comparedOf};
-ghost use Rattle.order.specs.Steps.{fromTop, alignedOrder, regularOrder, sizeOrder, apartOrder, signedOrder, turnedCase};
+ghost use Rattle.order.specs.Steps.{fromTop, alignedOrder, regularOrder, reversedIf, sameOrder, apartOrder, signedOrder, turnedCase};
 
 pub enum Order {
     Less,
@@ -92,33 +93,59 @@ fn order_limbs(xl: &[u64], xp: u64, yl: &[u64], yp: u64) -> Order
     order_padded(xl, xp, yl, yp)
 }
 
-// Two regular numbers without their signs: the exponents decide, else the limbs.
+// The order of the same two, the other way round.
+fn turned(order: Order) -> Order
+    ensures { λ r. ⌜ r ≡ turnedCase order ⌝ }
+{
+    match order {
+        Order::Less => Order::Greater,
+        Order::Equal => Order::Equal,
+        Order::Greater => Order::Less,
+    }
+}
+
+// The order, or that one where so said.
+fn turned_if(turn: bool, order: Order) -> Order
+    ensures { λ r. ⌜ r ≡ cond turn (turnedCase order) order ⌝ }
+{
+    if turn { turned(order) } else { order }
+}
+
+// Two regular numbers of one sign: the exponents decide, else the limbs, and a negative sign turns what they say.
 fn order_regular(x: Number, xl: &[u64], y: Number, yl: &[u64]) -> Order
-    ensures { λ r. ⌜ r ≡ caseOf (regularOrder (operandOf x (now (xl .entry))) (operandOf y (now (yl .entry)))) ⌝ }
+    ensures { λ r. ⌜ r ≡ caseOf (reversedIf (x .negative) (regularOrder (operandOf x (now (xl .entry))) (operandOf y (now (yl .entry))))) ⌝ }
 {
     if x.exponent != y.exponent {
-        if x.exponent < y.exponent {
+        if (x.exponent < y.exponent) != x.negative {
             return Order::Less;
         }
         return Order::Greater;
     }
-    order_limbs(xl, x.precision, yl, y.precision)
+    turned_if(x.negative, order_limbs(xl, x.precision, yl, y.precision))
 }
 
-// Two numbers without their signs; a zero is below every regular number.
-fn order_sizes(x: Number, xl: &[u64], y: Number, yl: &[u64]) -> Order
-    ensures { λ r. ⌜ r ≡ caseOf (sizeOrder (operandOf x (now (xl .entry))) (operandOf y (now (yl .entry)))) ⌝ }
+// Two numbers of one sign, one of them a zero: it is below a positive number and above a negative one.
+fn order_zeros(x: Number, y: Number) -> Order
+    requires { ⌜ isZeroKind (x .kind) || isZeroKind (y .kind) ≡ true ⌝ }
+    ensures { λ r. ⌜ r ≡ caseOf (sameOrder (operandOf x []) (operandOf y [])) ⌝ }
 {
-    let xz = checks::is_zero(x);
-    let yz = checks::is_zero(y);
-    if xz {
-        if yz {
-            return Order::Equal;
-        }
+    let first = checks::is_zero(x);
+    let second = checks::is_zero(y);
+    if first & second {
+        return Order::Equal;
+    }
+    if first != x.negative {
         return Order::Less;
     }
-    if yz {
-        return Order::Greater;
+    Order::Greater
+}
+
+// Two numbers of one sign: of two negative ones the larger in size is below.
+fn order_same(x: Number, xl: &[u64], y: Number, yl: &[u64]) -> Order
+    ensures { λ r. ⌜ r ≡ caseOf (sameOrder (operandOf x (now (xl .entry))) (operandOf y (now (yl .entry)))) ⌝ }
+{
+    if checks::is_zero(x) | checks::is_zero(y) {
+        return order_zeros(x, y);
     }
     order_regular(x, xl, y, yl)
 }
@@ -138,48 +165,42 @@ fn order_apart(x: Number, y: Number) -> Order
     Order::Greater
 }
 
-// The order of the same two, the other way round.
-fn turned(order: Order) -> Order
-    ensures { λ r. ⌜ r ≡ turnedCase order ⌝ }
-{
-    match order {
-        Order::Less => Order::Greater,
-        Order::Equal => Order::Equal,
-        Order::Greater => Order::Less,
-    }
-}
-
-// The order, or that one where so said.
-fn turned_if(turn: bool, order: Order) -> Order
-    ensures { λ r. ⌜ r ≡ cond turn (turnedCase order) order ⌝ }
-{
-    if turn { turned(order) } else { order }
-}
-
-// Two numbers of one sign: of two negative ones the larger in size is below.
+// Two accepted numbers, by their signs first.
 fn order_accepted(x: Number, xl: &[u64], y: Number, yl: &[u64]) -> Order
     ensures { λ r. ⌜ r ≡ caseOf (signedOrder (operandOf x (now (xl .entry))) (operandOf y (now (yl .entry)))) ⌝ }
 {
     if x.negative != y.negative {
         return order_apart(x, y);
     }
-    turned_if(x.negative, order_sizes(x, xl, y, yl))
+    order_same(x, xl, y, yl)
 }
 
-// The order of two numbers, once refusals 2 to 5 are checked.
+// The answer where one of the two numbers is refused.
+fn refused(x: Number, xl: &[u64], y: Number, yl: &[u64]) -> Compared
+    requires { ⌜ (Passes (operandOf x (now xl)) × Passes (operandOf y (now yl)) → ⊥) ⌝ }
+    ensures { λ r. ⌜ r ≡ comparedOf x (now (xl .entry)) y (now (yl .entry)) ⌝ }
+{
+    Compared {
+        order: Order::Equal,
+        refusal: refusals::refuse_operands(0, x, xl, y, yl),
+    }
+}
+
+// The order of two numbers, once refusals 2 to 5 are checked. A refusal is told of numbers and slices of its own, so that where both pass
+// they need not stand in memory.
 pub fn compare(x: Number, xl: &[u64], y: Number, yl: &[u64]) -> Compared
     ensures { λ r. ⌜ r ≡ comparedOf x (now (xl .entry)) y (now (yl .entry)) ⌝ }
 {
-    let refusal = admission::check_compared(x, xl, y, yl);
-    if refusal.rule != 0 {
-        return Compared {
-            order: Order::Equal,
-            refusal: refusal,
-        };
+    if !admission::passes(x, xl) {
+        return refused(checks::copied(x), &xl[..], checks::copied(y), &yl[..]);
+    }
+    if !admission::passes(y, yl) {
+        return refused(checks::copied(x), &xl[..], checks::copied(y), &yl[..]);
     }
     let order = order_accepted(x, xl, y, yl);
+    let none = Refusal { rule: 0, place: 0 };
     Compared {
         order: order,
-        refusal: refusal,
+        refusal: none,
     }
 }

@@ -13,7 +13,7 @@ passes-requires c κs = search needs
 
 returns : tie.Need-returns
 unfolding accepted
-returns c = sym (alone-passes _ (c .before .passes .ensures (c .if1 .taken)))
+returns c = sym (alone-passes _ (c .before .passes .ensures .0 (c .if1 .taken)))
 
 copied-requires : tie.Need-copied-requires
 copied-requires c κs = search needs

@@ -1,6 +1,5 @@
 -- `admission::limbs_pass`: the top limb by a comparison, and the lowest by its test. Assumes nothing.
-use mathlib.Core.Bool.{false≢true}
-use Rattle.checks.proofs.Passing.{limbs-hold}
+use Rattle.checks.proofs.Passing.{top-fails, low-decides}
 use borrow.Author.Needs.{needs}
 use Rattle.admission.proofs.limbs_pass.Statement.{statement}
 use Rattle.admission.proofs.limbs_pass.Tie as tie
@@ -15,7 +14,7 @@ shared-slice-read-if1 : tie.Need-shared-slice-read-if1
 shared-slice-read-if1 c = search needs
 
 returns : tie.Need-returns
-returns c = λ h. absurd (false≢true h)
+returns c = top-fails _ _ (c .if1 .taken)
 
 shared-slice-read-low-holds : tie.Need-shared-slice-read-low-holds
 shared-slice-read-low-holds c = search needs
@@ -24,7 +23,7 @@ low-holds-requires : tie.Need-low-holds-requires
 low-holds-requires c κs = search needs
 
 returns-2 : tie.Need-returns-2
-returns-2 c = λ h. limbs-hold _ _ _ (c .before .before .if1 .left) (c .low-holds .ensures) h
+returns-2 c = low-decides _ _ _ (c .before .before .if1 .left) (c .low-holds .ensures)
 
 pub limbs-pass-spec : {M : Type 1} → statement M
 limbs-pass-spec =

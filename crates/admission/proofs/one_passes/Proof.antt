@@ -14,7 +14,7 @@ passes-requires c κs = search needs
 
 returns-2 : tie.Need-returns-2
 unfolding modeHolds
-returns-2 c = λ h. (le-leb _ 3 (c .before .if1 .left), c .passes .ensures h)
+returns-2 c = λ h. (le-leb _ 3 (c .before .if1 .left), c .passes .ensures .0 h)
 
 pub one-passes-spec : {M : Type 1} → statement M
 one-passes-spec = tie.close (tie.spec returns passes-requires returns-2)

@@ -1,6 +1,7 @@
 -- `admission::passes`: the sizes, and then the value. Assumes nothing.
 use mathlib.Core.Bool.{false≢true}
-use borrow.Author.Tests.{not-false}
+use borrow.Author.Tests.{not-false, not-true}
+use Rattle.checks.specs.Number.{operandOf}
 use borrow.Author.Needs.{needs}
 use Rattle.admission.proofs.passes.Statement.{statement}
 use Rattle.admission.proofs.passes.Tie as tie
@@ -9,7 +10,8 @@ target-passes-requires : tie.Need-target-passes-requires
 target-passes-requires c κs = search needs
 
 returns : tie.Need-returns
-returns c = λ h. absurd (false≢true h)
+unfolding operandOf
+returns c = (λ h. absurd (false≢true h), λ _ t. c .before .target-passes .ensures .1 (not-true _ (c .if1 .taken)) (record { precision = t .precision; limbs = t .limbs }))
 
 value-passes-requires : tie.Need-value-passes-requires
 value-passes-requires c κs = c .before .target-passes .ensures .0 (not-false _ (c .if1 .left))

@@ -15,7 +15,7 @@ value-passes-requires-2 : tie.Need-value-passes-requires-2
 value-passes-requires-2 c κs = search needs
 
 returns-2 : tie.Need-returns-2
-returns-2 c = λ h. (c .before .before .value-passes .ensures (not-false _ (c .before .if1 .left)), c .value-passes2 .ensures h)
+returns-2 c = λ h. (c .before .before .value-passes .ensures .0 (not-false _ (c .before .if1 .left)), c .value-passes2 .ensures .0 h)
 
 pub values-pass-spec : {M : Type 1} → statement M
 values-pass-spec = tie.close (tie.spec value-passes-requires returns value-passes-requires-2 returns-2)

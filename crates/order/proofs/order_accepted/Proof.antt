@@ -12,15 +12,12 @@ order-apart-requires c κs = search needs
 returns : tie.Need-returns
 returns c = signs-apart _ _ _ _ (not-true (Bool·beq (c .before .before .before .before .before .before .args .x .negative) (c .before .before .before .before .before .before .args .y .negative)) (c .before .if1 .taken)) (c .order-apart .ensures)
 
-order-sizes-requires : tie.Need-order-sizes-requires
-order-sizes-requires c κs = search needs
-
-turned-if-requires : tie.Need-turned-if-requires
-turned-if-requires c κs = search needs
+order-same-requires : tie.Need-order-same-requires
+order-same-requires c κs = search needs
 
 returns-2 : tie.Need-returns-2
-returns-2 c = signs-alike _ _ _ _ (not-false (Bool·beq (c .before .before .before .before .before .before .before .args .x .negative) (c .before .before .before .before .before .before .before .args .y .negative)) (c .before .before .if1 .left)) (c .turned-if .ensures) (c .before .order-sizes .ensures)
+returns-2 c = signs-alike _ _ _ _ (not-false (Bool·beq (c .before .before .before .before .before .before .args .x .negative) (c .before .before .before .before .before .before .args .y .negative)) (c .before .if1 .left)) (c .order-same .ensures)
 
 pub order-accepted-spec : {M : Type 1} → statement M
 order-accepted-spec =
-    tie.close (tie.spec order-apart-requires returns order-sizes-requires turned-if-requires returns-2)
+    tie.close (tie.spec order-apart-requires returns order-same-requires returns-2)
