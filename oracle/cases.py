@@ -411,6 +411,44 @@ def boundary_sum(draw, p, drop):
     return kept * power(drop) + rest
 
 
+def stretches():
+    """Columns after the first that are all zeros or all ones, and then one that need not be, or the end."""
+    draw = Draw("stretches")
+    made = 0
+    while made < 500:
+        case = stretch_case(draw)
+        if case is not None:
+            made += 1
+            yield case
+
+
+def stretch_case(draw):
+    """One such sum, or None where it has too few digits or the read part of x would not begin with 1."""
+    columns = draw.of((2, 3, 3, 4, 5, 12))
+    c = 64 * columns
+    p = draw.of((2, 3, 24, 53, 53, 60, 61, 62, 63, 64))
+    gap = draw.of((0, 0, 0, 1, 5, 63, 64))
+    like = draw.below(2) == 1
+    first = draw.of((64, 65)) if like else 64 - draw.of((0, 1, 1, 2, 9))
+    if first < p:
+        return None
+    between = draw.of((0, power(c - 128) - 1))
+    last = draw.of((0, 1, power(63), FULL - 1, FULL, draw.bits(64)))
+    wanted = (boundary_sum(draw, p, first - p) * power(c - 128) + between) * power(64) + last
+    m, n = c + draw.of((0, 0, 1, 2, 64)), c - gap + draw.of((0, 0, 1, 2, 64))
+    y_digits = draw.digits(n)
+    y_read = y_digits * power(c) // power(gap + n)
+    x_read = wanted - y_read if like else wanted + y_read
+    if x_read < power(c - 1) or x_read >= power(c):
+        return None
+    tail = power(m - c)
+    x_digits = x_read * tail + draw.of((0, 0, 1, tail - 1)) % tail
+    e = draw.of((0, 0, 0, MOST, clamped(LEAST + c - 64 * draw.below(3))))
+    sign = draw.sign()
+    x, y = regular(sign, x_digits, m, e), regular(sign if like else -sign, y_digits, n, clamped(e - gap))
+    return draw.case(*either_order(draw, x, y), p, ADD, draw.of((0, 0, 0, 1, 2, 3)))
+
+
 def ripples():
     """Carries and borrows that a digit many columns down decides."""
     draw = Draw("ripples")
@@ -675,7 +713,7 @@ FAMILIES = (
     depth_example, one_unread_digit, half_in_a_hole, half_read_so_far, boundaries,
     ones_at_the_top, tie_at_the_top, sides_of_zero, deep_underflow, ripples, deepest, tiny, gaps,
     cancellations, below_a_power, ties, carries, range_ends, smallest_differences, large, zeros,
-    rerounds, comparisons, single_faults, double_faults, many_faults,
+    rerounds, comparisons, single_faults, double_faults, many_faults, stretches,
 )
 
 
