@@ -1,17 +1,17 @@
 -- Laws of a signed exponent and how it is counted. Assumes nothing.
 use mathlib.Core.Path.{_≡_, refl, sym, ap, _∙_}
 use mathlib.Core.Bool.{true}
-use Prim.Native.Nat.{ℕ, zero, suc, _+_, _-_, _^_, _≤_, _<_}
+use Prim.Native.Nat.{ℕ, suc, _+_, _-_, _^_, _≤_, _<_}
 use native.Mathlib.Nat.{add-comm, lt-of-not-le}
 use native.Mathlib.Decide.{decLe}
 use native.Mathlib.Omega.{arith}
-use lib.Dec.{T, leb, eqb}
+use lib.Dec.{T, leb}
 use lib.IntN.{ℤ, pos, negsuc, _+ℤ_, _-ℤ_, subℕ, natAbs}
-use lib.Signed.{nonNeg, leZ}
+use lib.Signed.{nonNeg}
 use mir.Syntax.{w32, w64}
 use mir.Val.{Fits, SFits, toZ, ofZ}
 use mir.Facts.{toZ-ofZ, toZ-pos, sfits-widen}
-use borrow.Author.Tests.{le-ltb, lt-ltb, le-leb, lt-leb, leb-true, ne-eqb}
+use borrow.Author.Tests.{le-ltb, lt-ltb, le-leb, lt-leb, leb-true}
 use Rattle.numbers.specs.Limits.{bias, counted, leastExponent, mostExponent}
 use Rattle.checks.specs.Number.{exponentOf}
 
@@ -107,29 +107,3 @@ pub exponent-of-counted : (z : ℤ) → SFits w32 z → exponentOf (counted z) �
 unfolding exponentOf counted bias
 exponent-of-counted (pos n) h = simp (le-leb 1097364144128 (1099511627776 + n) (omega arith), lt-ltb (1099511627776 + n) 1101659111424 (omega arith), le-ltb (1099511627776 + n) 1099511627776 (omega arith)) (ap pos (omega arith))
 exponent-of-counted (negsuc n) h = simp (le-leb 1097364144128 (1099511627776 - suc n) (omega arith), lt-ltb (1099511627776 - suc n) 1101659111424 (omega arith), lt-ltb (1099511627776 - suc n) 1099511627776 (omega arith)) (ap negsuc (omega arith))
-
--- ---- an exponent, tested as it is, against the counted one
-
-pub zero-tested : (z : ℤ) → SFits w32 z → eqb (ofZ w32 z) 0 ≡ eqb (counted z) bias
-unfolding counted bias
-zero-tested (pos zero) h = refl
-zero-tested (pos (suc n)) h = ne-eqb (suc n) 0 (λ e. omega arith) ∙ sym (ne-eqb (1099511627776 + suc n) 1099511627776 (λ e. omega arith))
-zero-tested (negsuc n) h = ne-eqb (2 ^ 32 - suc n) 0 (λ e. omega arith) ∙ sym (ne-eqb (1099511627776 - suc n) 1099511627776 (λ e. omega arith))
-
-pub least-tested : (z : ℤ) → leZ (negsuc 1073741822) z ≡ leb leastExponent (counted z)
-unfolding counted leastExponent bias
-least-tested (pos n) = sym (le-leb 1098437885953 (1099511627776 + n) (omega arith))
-least-tested (negsuc n) =
-    elim (decLe n 1073741822) [
-      | yes h ↦ le-leb n 1073741822 h ∙ sym (le-leb 1098437885953 (1099511627776 - suc n) (omega arith))
-      | no h ↦ lt-leb n 1073741822 (lt-of-not-le h) ∙ sym (lt-leb 1098437885953 (1099511627776 - suc n) (omega arith))
-    ]
-
-pub most-tested : (z : ℤ) → leZ z (pos 1073741823) ≡ leb (counted z) mostExponent
-unfolding counted mostExponent bias
-most-tested (pos n) =
-    elim (decLe n 1073741823) [
-      | yes h ↦ le-leb n 1073741823 h ∙ sym (le-leb (1099511627776 + n) 1100585369599 (omega arith))
-      | no h ↦ lt-leb n 1073741823 (lt-of-not-le h) ∙ sym (lt-leb (1099511627776 + n) 1100585369599 (omega arith))
-    ]
-most-tested (negsuc n) = sym (le-leb (1099511627776 - suc n) 1100585369599 (omega arith))

@@ -1,34 +1,28 @@
 -- What each test of the code says of the definitions: by kind, and of the lowest and the top limb. Assumes nothing.
-use mathlib.Core.Path.{_≡_, refl, sym, _∙_}
+use mathlib.Core.Path.{_≡_, refl, sym}
 use mathlib.Core.Bool.{Bool, true, false, _&&_}
 use mathlib.Core.List.{List, [], _∷_}
 use Prim.Native.Nat.{ℕ, _-_, _*_, _%_, _^_, _<_}
 use native.Mathlib.Nat.{mod-eq-of-lt, one-mul}
 use native.Mathlib.Omega.{arith}
-use lib.Dec.{eqb}
-use lib.IntN.{pos, negsuc}
-use lib.Signed.{leZ}
+use lib.Dec.{leb, eqb}
 use lib.ListN.{length, getD}
 use lib.Pow.{pow-pos, pow-lt}
-use mir.Syntax.{w32}
-use mir.Val.{SFits, toZ, ofZ}
-use mir.Facts.{toZ-ofZ}
 use borrow.Author.Tests.{eq-eqb}
-use Rattle.numbers.specs.Limits.{limbsFor}
+use Rattle.numbers.specs.Limits.{counted, bias, leastExponent, mostExponent, limbsFor}
 use Rattle.numbers.specs.Operand.{spareBits}
 use Rattle.checks.specs.declared.Number.{Number}
 use Rattle.checks.specs.Number.{operandOf, isZeroKind}
 use Rattle.checks.specs.Check.{exponentHolds, formHolds, topBitHolds, spareBitsHold}
-use Rattle.checks.proofs.Signed.{zero-tested, least-tested, most-tested}
 
 module _ (x : Number) where
-  pub zero-exponent : SFits w32 (x .exponent) → isZeroKind (x .kind) ≡ true → eqb (ofZ w32 (x .exponent)) 0 ≡ exponentHolds (operandOf x [])
-  unfolding exponentHolds operandOf
-  zero-exponent h k = zero-tested (x .exponent) h ∙ rw k
+  pub zero-exponent : (e : ℕ) → isZeroKind (x .kind) ≡ true → e ≡ counted (x .exponent) → eqb e 1099511627776 ≡ exponentHolds (operandOf x [])
+  unfolding exponentHolds operandOf bias
+  zero-exponent e k h = rw (k, h)
 
-  pub regular-exponent : SFits w32 (x .exponent) → isZeroKind (x .kind) ≡ false → let e = toZ w32 (ofZ w32 (x .exponent)) in leZ (negsuc 1073741822) e && leZ e (pos 1073741823) ≡ exponentHolds (operandOf x [])
-  unfolding exponentHolds operandOf
-  regular-exponent h k = rw (k, toZ-ofZ h, least-tested (x .exponent), most-tested (x .exponent))
+  pub regular-exponent : (e : ℕ) → isZeroKind (x .kind) ≡ false → e ≡ counted (x .exponent) → leb 1098437885953 e && leb e 1100585369599 ≡ exponentHolds (operandOf x [])
+  unfolding exponentHolds operandOf bias leastExponent mostExponent
+  regular-exponent e k h = rw (k, h)
 
   pub zero-form : (l : List ℕ) → isZeroKind (x .kind) ≡ true → true ≡ formHolds (operandOf x l)
   unfolding formHolds operandOf

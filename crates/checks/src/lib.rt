@@ -33,13 +33,12 @@ pub const MOST_PRECISION: u64 = 4096;
 // 2^63: the first digit of a limb.
 pub const FIRST_DIGIT: u64 = 9223372036854775808;
 
-// Exponents are counted from -2^40: what 0 is counted as.
+// Exponents are counted from -2^40: what 0, the least and the most exponent of a regular number are counted as.
 pub const BIAS: u64 = 1099511627776;
 
-// 1 - 2^30 and 2^30 - 1: the least and the most exponent of a regular number.
-pub const LEAST_EXPONENT: i32 = -1073741823;
+pub const LEAST_EXPONENT: u64 = 1098437885953;
 
-pub const MOST_EXPONENT: i32 = 1073741823;
+pub const MOST_EXPONENT: u64 = 1100585369599;
 
 // The number with the other sign; takes anything.
 pub fn turn_sign(x: Number) -> Number
@@ -128,10 +127,11 @@ pub fn length_holds(p: u64, n: usize) -> bool
 pub fn exponent_holds(x: Number) -> bool
     ensures { λ r. ⌜ r ≡ exponentHolds (operandOf x []) ⌝ }
 {
+    let e = counted_exponent(x.exponent);
     if is_zero(x) {
-        return x.exponent == 0;
+        return e == BIAS;
     }
-    (LEAST_EXPONENT <= x.exponent) & (x.exponent <= MOST_EXPONENT)
+    (LEAST_EXPONENT <= e) & (e <= MOST_EXPONENT)
 }
 
 // 5: the top bit of the top limb is 1.
