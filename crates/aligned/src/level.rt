@@ -33,15 +33,14 @@ pub fn subtract_lower(
     let d = either(swapped, u, v) - either(swapped, v, u);
     target[0] = d;
     if d == 0 {
-        let placed = Placed {
-            rule: 0,
-            exponent: 0,
-            ternary: 0,
-        };
         return Attempt {
             open: false,
             negative: reports::zero_sign(mode, negative, !negative),
-            placed: placed,
+            placed: Placed {
+                rule: 0,
+                exponent: 0,
+                ternary: 0,
+            },
             depth: 2,
             first: 2,
             second: 2,

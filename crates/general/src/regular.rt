@@ -70,14 +70,9 @@ fn ordered(
     );
     let k = walked.columns;
     let placed = ending::finish(mode, negative, p, pair, walked, target);
-    reports::answered(
-        placed,
-        negative,
-        p,
-        k,
-        reports::used(k, 0, xl.len()),
-        reports::used(k, gap, yl.len()),
-    )
+    let first = reports::used(k, 0, xl.len());
+    let second = reports::used(k, gap, yl.len());
+    reports::answered(placed, negative, p, k, first, second)
 }
 
 // No column in which two operands differ, of so many; or the first, where the first is larger, or the second.

@@ -6,13 +6,17 @@ ghost use mathlib.Core.List.{List};
 ghost use lib.ListN.{length};
 ghost use Rattle.numbers.specs.Operand.{WellFormed};
 ghost use Rattle.rounding.specs.Mode.{modeOf};
+ghost use Rattle.rounding.specs.Answer.{Answer};
 ghost use Rattle.depth.specs.Depth.{plus, minus};
 ghost use Rattle.checks.specs.Number.{isZeroKind, operandOf};
 ghost use Rattle.admission.specs.Sizes.{SizesPass};
-ghost use Rattle.reports.specs.Summed.{Reported, Summed, Rerounded};
+ghost use Rattle.place.specs.Placed.{placedOf};
+ghost use Rattle.reports.specs.Signed.{Signed};
+ghost use Rattle.reports.specs.Summed.{sumOf, Reported, Summed, Rerounded};
 ghost use Rattle.descent.specs.Ready.{Room};
 use checks::Number;
 use reports::Sum;
+use wide::Attempt;
 
 // Two zeros: nothing is read.
 fn zeros(mode: u8, x: Number, y: Number, p: u64, target: &mut [u64]) -> Sum
@@ -45,6 +49,21 @@ fn is_narrow(p: u64, x: Number, y: Number) -> bool
     ensures { λ r. ⌜ (r ≡ true → (p ≤ 62) × (isZeroKind (x .kind) ≡ false) × (isZeroKind (y .kind) ≡ false)) ⌝ }
 {
     (p <= 62) & !checks::is_zero(x) & !checks::is_zero(y)
+}
+
+// What an attempt tells, as it is reported.
+fn reported(told: Attempt, p: u64) -> Sum
+    ensures { λ r. ⌜ ((a : Answer) → Signed (told .negative) a → told .placed ≡ placedOf a → r ≡ sumOf a p (told .depth) (told .first) (told .second)) ⌝ }
+{
+    let placed = told.placed;
+    reports::answered(
+        placed,
+        told.negative,
+        p,
+        told.depth,
+        told.first,
+        told.second,
+    )
 }
 
 // x + y, rounded to p digits: at once where the first column fixes it, or the columns that fill the target.
@@ -87,15 +106,7 @@ fn add_sized<'a>(
             target,
         );
     }
-    let placed = told.placed;
-    reports::answered(
-        placed,
-        told.negative,
-        p,
-        told.depth,
-        told.first,
-        told.second,
-    )
+    reported(told, p)
 }
 
 // Where the sizes do not pass: the first test that fails, by the tests in their order. Of the target its length is enough.

@@ -72,16 +72,16 @@ returns-3 c =
     pair-reported _ _ _ _ _ _ _ _ (c .before .before .before .before .before .before .before .before .before .before .before .before .before .before .before .check-pair .ensures) (c .before .before .before .before .before .before .before .before .before .before .before .before .before .if1 .left)
     (copies-reported _ _ _ _ (c .before .before .before .before .before .copied .ensures) (c .before .before .before .before .copied2 .ensures) _ _ (c .before .before .summed .ensures))
 
-answered-requires-2 : tie.Need-answered-requires-2
-answered-requires-2 c κs = search needs
+reported-requires : tie.Need-reported-requires
+reported-requires c κs = search needs
 
 same-length-3 : tie.Need-same-length-3
 same-length-3 c = search needs
 
 returns-4 : tie.Need-returns-4
 returns-4 c =
-    pair-reported _ _ _ _ _ _ _ _ (c .before .before .before .before .before .before .before .before .before .before .before .check-pair .ensures) (c .before .before .before .before .before .before .before .before .before .if1 .left)
-    (attempted-reported _ _ _ _ (c .before .before .before .before .before .attempt .result) _ (c .before .before .before .before .before .attempt .ensures .1 (c .before .before .if4 .left)) (c .answered2 .ensures))
+    pair-reported _ _ _ _ _ _ _ _ (c .before .before .before .before .before .before .before .before .before .before .check-pair .ensures) (c .before .before .before .before .before .before .before .before .if1 .left)
+    (attempted-reported _ _ _ _ (c .before .before .before .before .attempt .result) _ (c .before .before .before .before .attempt .ensures .1 (c .before .if4 .left)) (c .reported .ensures))
 
 pub add-sized-spec : {M : Type 1} → statement M
 add-sized-spec =
@@ -102,6 +102,6 @@ add-sized-spec =
     summed-requires
     same-length-2
     returns-3
-    answered-requires-2
+    reported-requires
     same-length-3
     returns-4)
