@@ -43,8 +43,8 @@ use Rattle.descent.proofs.GoingOn.{sum-below, difference-is}
 use Rattle.descent.proofs.GoingDown.{room-some, open-before}
 use Rattle.descent.proofs.JudgingRange.{digits-some}
 use Rattle.descent.proofs.AtOnce.{inland-sooner}
-use Rattle.ending.proofs.RegularEnd.{deep-enough}
-use Rattle.ending.specs.Finishing.{Left}
+use Rattle.descent.proofs.RegularEnd.{deep-enough}
+use Rattle.descent.specs.Finishing.{Left}
 use Rattle.wide.specs.Attempted.{Attempted}
 use Rattle.wide.proofs.Unread.{row-read}
 use Rattle.wide.proofs.Level.{short-open}

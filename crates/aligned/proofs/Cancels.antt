@@ -15,9 +15,9 @@ use Rattle.place.specs.declared.Placed.{Placed}
 use Rattle.place.specs.Placed.{placedOf, limbsAfter}
 use Rattle.columns.specs.Column.{readTo}
 use Rattle.descent.specs.Ready.{Room}
-use Rattle.ending.specs.Finishing.{Left}
-use Rattle.ending.specs.Level.{Level}
-use Rattle.ending.proofs.Cancelled.{near, depth-told, sum, first-used, second-used}
+use Rattle.descent.specs.Finishing.{Left}
+use Rattle.descent.specs.Level.{Level}
+use Rattle.descent.proofs.Cancelled.{near, depth-told, sum, first-used, second-used}
 use Rattle.reports.specs.Signed.{Signed}
 use Rattle.wide.specs.Attempted.{Attempted}
 use Rattle.aligned.specs.Aligned.{Aligned, Alike, Cancelling}

@@ -33,7 +33,7 @@ use Rattle.bridge.proofs.Told.{pair-top}
 use Rattle.bridge.proofs.Answers.{exact-sum, sum-pos}
 use Rattle.bridge.proofs.Covered.{columns-above}
 use Rattle.descent.proofs.JudgingRange.{digits-some}
-use Rattle.ending.specs.Finishing.{Left}
+use Rattle.descent.specs.Finishing.{Left}
 use Rattle.wide.specs.Attempted.{Attempted}
 use Rattle.aligned.specs.Aligned.{Aligned, Covered}
 use Rattle.aligned.proofs.AllRead.{row, some, near, leads-all, covered-told}

@@ -24,8 +24,8 @@ use Rattle.twolimbs.specs.Two.{headIn, Brought}
 use Rattle.twolimbs.specs.declared.Normal.{Normal}
 use Rattle.bridge.proofs.Covered.{columns-above}
 use Rattle.descent.specs.Ready.{Room}
-use Rattle.ending.proofs.Handed.{beq-turned}
-use Rattle.ending.proofs.RegularEnd.{deep-enough}
+use Rattle.descent.proofs.Handed.{beq-turned}
+use Rattle.descent.proofs.RegularEnd.{deep-enough}
 use Rattle.wide.specs.Attempted.{Attempted}
 use Rattle.aligned.specs.Aligned.{Aligned, Cancelling}
 use Rattle.aligned.specs.Few.{Few, AbsoluteDifference}

@@ -32,8 +32,8 @@ use Rattle.descent.specs.Course.{Course}
 use Rattle.descent.proofs.AtOnce.{some-of}
 use Rattle.descent.proofs.GoingDown.{open-before}
 use Rattle.descent.proofs.JudgingRange.{digits-some}
-use Rattle.ending.proofs.Handed.{beq-turned}
-use Rattle.ending.proofs.RegularEnd.{deep-enough, rounded-signed}
+use Rattle.descent.proofs.Handed.{beq-turned}
+use Rattle.descent.proofs.RegularEnd.{deep-enough, rounded-signed}
 use Rattle.wide.specs.Attempted.{Attempted}
 use Rattle.wide.proofs.InOrder.{attempted-turned}
 use Rattle.aligned.specs.Aligned.{Aligned, Cancelling}

@@ -17,8 +17,8 @@ use Rattle.bridge.specs.Verdict.{pairOf, Ordered, readSum}
 use Rattle.bridge.proofs.Told.{pair-same}
 use Rattle.descent.specs.Course.{Course}
 use Rattle.descent.proofs.GoingOn.{secondRead, sum-is, difference-is}
-use Rattle.ending.proofs.Handed.{course-first}
-use Rattle.ending.proofs.RegularEnd.{deep-enough}
+use Rattle.descent.proofs.Handed.{course-first}
+use Rattle.descent.proofs.RegularEnd.{deep-enough}
 use Rattle.aligned.specs.Aligned.{Aligned}
 use Rattle.aligned.proofs.AllRead.{no-gap}
 

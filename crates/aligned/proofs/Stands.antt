@@ -23,8 +23,8 @@ use Rattle.rounding.proofs.Order.{le-or-lt}
 use Rattle.bridge.proofs.Told.{pair-top}
 use Rattle.descent.specs.Ready.{Room}
 use Rattle.descent.proofs.GoingDown.{room-some}
-use Rattle.ending.proofs.Finishing.{cleared}
-use Rattle.ending.proofs.Handed.{beq-turned}
+use Rattle.descent.proofs.Finishing.{cleared}
+use Rattle.descent.proofs.Handed.{beq-turned}
 use Rattle.aligned.specs.Aligned.{Aligned, Alike, Reducible, Subtracted, Covered, Standing}
 use Rattle.aligned.proofs.Parting.{Parted, same-told, sum-all, course-sum, apart, lower-less, course-parted, difference-below}
 

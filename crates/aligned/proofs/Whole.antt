@@ -25,7 +25,7 @@ use Rattle.bridge.proofs.Answers.{sum-pos}
 use Rattle.bridge.proofs.Covered.{columns-above}
 use Rattle.bridge.proofs.Refine.{scaled-up}
 use Rattle.descent.proofs.JudgingRange.{digits-some}
-use Rattle.ending.proofs.RegularEnd.{deep-enough, rounded-signed}
+use Rattle.descent.proofs.RegularEnd.{deep-enough, rounded-signed}
 use Rattle.wide.specs.Attempted.{Attempted}
 use Rattle.aligned.specs.Aligned.{Aligned, Standing}
 use Rattle.aligned.proofs.AllRead.{some, limbs-few, leads-all, answer, covered-told}

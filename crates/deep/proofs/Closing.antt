@@ -39,7 +39,7 @@ use Rattle.bridge.proofs.Refine.{enough-digits, refine, scaled-up}
 use Rattle.bridge.proofs.Covered.{columns-above}
 use Rattle.descent.specs.Course.{Inside}
 use Rattle.descent.proofs.Inside.{inside-plus, inside-minus}
-use Rattle.ending.proofs.RegularEnd.{deep-enough}
+use Rattle.descent.proofs.RegularEnd.{deep-enough}
 use Rattle.front.specs.declared.showing.Front.{Front}
 use Rattle.front.specs.Front.{firstOf, ShowsFront}
 use Rattle.wide.specs.declared.filling.Filled.{Filled}

@@ -25,8 +25,8 @@ use Rattle.settle.specs.declared.rows.Way as code
 use Rattle.bridge.specs.Verdict.{readSum, settledBy}
 use Rattle.descent.specs.Course.{Inland}
 use Rattle.descent.specs.Ready.{Room}
-use Rattle.ending.proofs.RegularEnd.{deep-enough}
-use Rattle.ending.proofs.Handed.{limbs-some, top-read, top-first}
+use Rattle.descent.proofs.RegularEnd.{deep-enough}
+use Rattle.descent.proofs.Handed.{limbs-some, top-read, top-first}
 use Rattle.front.specs.declared.showing.Front.{Front}
 use Rattle.front.specs.Front.{firstOf, Kept}
 use Rattle.wide.specs.declared.filling.Filled.{Filled}

@@ -39,7 +39,7 @@ fn filled(front: Front, more: bool, depth: u64, target: &mut [u64]) -> Filled
         open: false,
         carry: front.carry,
         guard: 0,
-        more: more | ending::holds_more(tail),
+        more: more | descent::holds_more(tail),
         depth: depth,
     }
 }

@@ -6,3 +6,8 @@ pub mod GoingDown
 pub mod AtOnce
 pub mod Inside
 pub mod AtGlance
+pub mod Finishing
+pub mod Parts
+pub mod RegularEnd
+pub mod Handed
+pub mod Cancelled

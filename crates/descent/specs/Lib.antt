@@ -1,2 +1,4 @@
 pub mod Ready
 pub mod Course
+pub mod Finishing
+pub mod Level

@@ -25,7 +25,7 @@ use Rattle.settle.proofs.Units.{whole-less}
 use Rattle.bridge.proofs.Told.{pair-top}
 use Rattle.bridge.proofs.Covered.{columns-above}
 use Rattle.descent.proofs.JudgingRange.{digits-some}
-use Rattle.ending.proofs.RegularEnd.{deep-enough}
+use Rattle.descent.proofs.RegularEnd.{deep-enough}
 use Rattle.far.specs.Beside.{Beside}
 use Rattle.far.specs.Alone.{Alone, Answered}
 use Rattle.far.proofs.FirstAlone.{x, count, digits-are, far-fit, beside-more}

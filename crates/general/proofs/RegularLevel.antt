@@ -29,12 +29,12 @@ use Rattle.general.specs.declared.regular.Differ.{Differ}
 use Rattle.general.specs.declared.regular.Differ.the-variants.{Never, First, Second}
 use Rattle.descent.specs.Course.{Course}
 use Rattle.descent.specs.Ready.{Room}
-use Rattle.ending.specs.Level.{Level}
+use Rattle.descent.specs.Level.{Level}
 use Rattle.general.specs.Differs.{Differs}
 use Rattle.reports.specs.Counts.{usedOf}
 use Rattle.reports.specs.Summed.{sumOf, Reported}
-use Rattle.ending.proofs.RegularEnd.{deep-enough}
-use Rattle.ending.proofs.Cancelled.{limbs-few, no-gap, few, near, depth-told, sum, first-used, second-used}
+use Rattle.descent.proofs.RegularEnd.{deep-enough}
+use Rattle.descent.proofs.Cancelled.{limbs-few, no-gap, few, near, depth-told, sum, first-used, second-used}
 
 -- one column more
 read-next : (k : ℕ) (l : List ℕ) → readTo (suc k) 0 l ≡ readTo k 0 l * 2 ^ 64 + columnOf k 0 l

@@ -26,14 +26,14 @@ use Rattle.descent.specs.declared.going.Walked.{Walked}
 use Rattle.reports.specs.declared.report.Sum.{Sum}
 use Rattle.descent.specs.Ready.{Room}
 use Rattle.descent.specs.Course.{Begun, Course, Stopped}
-use Rattle.ending.specs.Finishing.{Ending, Left}
+use Rattle.descent.specs.Finishing.{Ending, Left}
 use Rattle.reports.specs.Signed.{Signed}
 use Rattle.reports.specs.Counts.{usedOf}
 use Rattle.reports.specs.Summed.{sumOf, Reported}
 use Rattle.reports.proofs.Told.{sum-depth}
 use Rattle.reports.proofs.Counts.{used-is}
-use Rattle.ending.proofs.Handed.{ordered-pair}
-use Rattle.ending.proofs.RegularEnd.{depth-told, signed-told, ending, not-deep}
+use Rattle.descent.proofs.Handed.{ordered-pair}
+use Rattle.descent.proofs.RegularEnd.{depth-told, signed-told, ending, not-deep}
 
 pub used-zero : (x : Operand) (t k : ℕ) → x .isZero ≡ true → 0 ≡ limbsUsed t k x
 unfolding limbsUsed

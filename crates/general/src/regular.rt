@@ -10,7 +10,7 @@ ghost use Rattle.checks.specs.Number.{operandOf};
 ghost use Rattle.reports.specs.Summed.{Reported};
 ghost use Rattle.descent.specs.Ready.{Room};
 ghost use Rattle.descent.specs.Course.{Course};
-ghost use Rattle.ending.specs.Level.{Level};
+ghost use Rattle.descent.specs.Level.{Level};
 ghost use Rattle.general.specs.Differs.{Differs};
 use checks::Number;
 use reports::Sum;
@@ -31,7 +31,7 @@ pub fn single(mode: u8, x: Number, xl: &[u64], p: u64, target: &mut [u64]) -> Su
     };
     let walked = descent::walk_down(settle::way_of(mode, negative), p, pair, xl, xl, 0, target);
     let k = walked.columns;
-    let placed = ending::finish(mode, negative, p, pair, walked, target);
+    let placed = descent::finish(mode, negative, p, pair, walked, target);
     reports::answered(placed, negative, p, k, reports::used(k, 0, xl.len()), 0)
 }
 
@@ -69,7 +69,7 @@ fn ordered(
         target,
     );
     let k = walked.columns;
-    let placed = ending::finish(mode, negative, p, pair, walked, target);
+    let placed = descent::finish(mode, negative, p, pair, walked, target);
     let first = reports::used(k, 0, xl.len());
     let second = reports::used(k, gap, yl.len());
     reports::answered(placed, negative, p, k, first, second)

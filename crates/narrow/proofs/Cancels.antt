@@ -25,7 +25,7 @@ use Rattle.bridge.proofs.Told.{pair-same}
 use Rattle.bridge.proofs.Decision.{equal-decision}
 use Rattle.bridge.proofs.Answers.{cancelled-sum}
 use Rattle.bridge.proofs.Covered.{columns-above}
-use Rattle.ending.specs.Finishing.{Left}
+use Rattle.descent.specs.Finishing.{Left}
 use Rattle.reports.specs.Signed.{Signed}
 use Rattle.narrow.specs.Sighting.{Held, Facing, AllKept, Told}
 use Rattle.narrow.proofs.Rows.{whole-row}

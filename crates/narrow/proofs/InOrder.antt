@@ -26,9 +26,9 @@ use Rattle.checks.specs.Number.{operandOf}
 use Rattle.settle.specs.declared.rows.Pair.{Pair}
 use Rattle.bridge.specs.Verdict.{pairOf, Ordered}
 use Rattle.bridge.proofs.Told.{top-is}
-use Rattle.ending.specs.Finishing.{Left}
+use Rattle.descent.specs.Finishing.{Left}
 use Rattle.reports.specs.Signed.{Signed}
-use Rattle.ending.proofs.Handed.{ordered-pair, beq-turned, limbs-some}
+use Rattle.descent.proofs.Handed.{ordered-pair, beq-turned, limbs-some}
 use Rattle.narrow.specs.declared.seeing.Seen.{Seen}
 use Rattle.narrow.specs.Sighting.{topLimb, Held, Facing, Told}
 use Rattle.narrow.specs.Looked.{Looked}

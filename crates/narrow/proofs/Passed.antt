@@ -18,7 +18,7 @@ use Rattle.place.specs.Placed.{runNumber, runAnswer, runRule, placedOf, limbsAf
 use Rattle.place.specs.Rounded.{roundedPlaced, roundedLimbs}
 use Rattle.place.proofs.Answer.{placed-passed, limbs-passed}
 use Rattle.place.proofs.Rules.{rule-none}
-use Rattle.ending.proofs.RegularEnd.{rounded-signed}
+use Rattle.descent.proofs.RegularEnd.{rounded-signed}
 use Rattle.narrow.specs.Sighting.{Told}
 
 -- ---- the weight of a guard's last digit, two columns below the top

@@ -15,8 +15,8 @@ use Rattle.columns.specs.Column.{readTo}
 use Rattle.settle.specs.declared.rows.Pair.{Pair}
 use Rattle.bridge.specs.Verdict.{pairOf, Leads, readSum}
 use Rattle.bridge.proofs.Told.{pair-top}
-use Rattle.ending.proofs.Handed.{limbs-some}
-use Rattle.ending.proofs.Handed as Handed
+use Rattle.descent.proofs.Handed.{limbs-some}
+use Rattle.descent.proofs.Handed as Handed
 use Rattle.narrow.specs.declared.column.Column.{Column}
 use Rattle.narrow.specs.Sighting.{topLimb, Held, Facing, Told}
 use Rattle.narrow.specs.Column.{firstRead, Found}

@@ -7,7 +7,7 @@ use Rattle.rounding.specs.Mode.{Mode}
 use Rattle.rounding.specs.Sum.{add}
 use Rattle.depth.specs.Columns.{topExponent, limbsUsed}
 use Rattle.depth.specs.Depth.{plus, Depth}
-use Rattle.ending.specs.Finishing.{Left}
+use Rattle.descent.specs.Finishing.{Left}
 use Rattle.reports.specs.Signed.{Signed}
 use Rattle.narrow.specs.declared.looking.Sight.{Sight}
 

@@ -12,7 +12,7 @@ use Rattle.decide.specs.Decide.{decideAt}
 use Rattle.place.specs.declared.Placed.{Placed}
 use Rattle.settle.specs.declared.rows.Pair.{Pair}
 use Rattle.bridge.specs.Verdict.{pairOf, Ordered}
-use Rattle.ending.specs.Finishing.{Left}
+use Rattle.descent.specs.Finishing.{Left}
 use Rattle.reports.specs.Signed.{Signed}
 
 -- the top limb of a number

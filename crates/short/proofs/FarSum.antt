@@ -38,8 +38,8 @@ use Rattle.bridge.proofs.FarHole.{far-fixed, far-sum, far-difference}
 use Rattle.bridge.proofs.Covered.{columns-above}
 use Rattle.descent.specs.Ready.{Room}
 use Rattle.descent.proofs.JudgingRange.{digits-some}
-use Rattle.ending.specs.Finishing.{Left}
-use Rattle.ending.proofs.RegularEnd.{deep-enough, rounded-signed}
+use Rattle.descent.specs.Finishing.{Left}
+use Rattle.descent.proofs.RegularEnd.{deep-enough, rounded-signed}
 use Rattle.wide.specs.Filling.{Holding, Rounds}
 use Rattle.wide.specs.Attempted.{Attempted}
 use Rattle.wide.proofs.Unread.{row-hole}

@@ -21,7 +21,7 @@ use Rattle.bridge.proofs.Told.{pair-first, pair-second, pair-top}
 use Rattle.bridge.proofs.Read.{read-lead}
 use Rattle.bridge.proofs.Covered.{columns-above}
 use Rattle.descent.specs.Ready.{Room}
-use Rattle.ending.proofs.RegularEnd.{deep-enough}
+use Rattle.descent.proofs.RegularEnd.{deep-enough}
 use Rattle.wide.specs.Filling.{Holding, Offered}
 use Rattle.wide.proofs.GuardBelow.{read-held, leads-held}
 

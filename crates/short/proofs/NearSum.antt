@@ -37,10 +37,10 @@ use Rattle.bridge.proofs.Answers.{exact-sum, sum-pos}
 use Rattle.bridge.proofs.Covered.{columns-above}
 use Rattle.descent.specs.Ready.{Room}
 use Rattle.descent.specs.Course.{Inland}
-use Rattle.ending.specs.Finishing.{Left}
+use Rattle.descent.specs.Finishing.{Left}
 use Rattle.descent.proofs.JudgingRange.{digits-some}
 use Rattle.descent.proofs.AtOnce.{inland-sooner}
-use Rattle.ending.proofs.RegularEnd.{deep-enough}
+use Rattle.descent.proofs.RegularEnd.{deep-enough}
 use Rattle.wide.specs.Filling.{Holding}
 use Rattle.wide.specs.Attempted.{Attempted}
 use Rattle.wide.proofs.Unread.{row-read}

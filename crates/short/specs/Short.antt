@@ -8,7 +8,7 @@ use Rattle.rounding.specs.Mode.{Mode}
 use Rattle.rounding.specs.Sum.{add}
 use Rattle.place.specs.declared.Placed.{Placed}
 use Rattle.settle.specs.declared.rows.Pair.{Pair}
-use Rattle.ending.specs.Finishing.{Left}
+use Rattle.descent.specs.Finishing.{Left}
 use Rattle.wide.specs.declared.told.Attempt.{Attempt}
 use Rattle.wide.specs.Filling.{Holding}
 use Rattle.wide.specs.Attempted.{Attempted}

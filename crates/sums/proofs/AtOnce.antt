@@ -18,7 +18,7 @@ use Rattle.checks.specs.Number.{operandOf}
 use Rattle.place.specs.Placed.{placedOf}
 use Rattle.descent.specs.Ready.{Room}
 use Rattle.reports.specs.Signed.{Signed}
-use Rattle.ending.proofs.RegularEnd.{deep-enough}
+use Rattle.descent.proofs.RegularEnd.{deep-enough}
 use Rattle.narrow.specs.declared.looking.Sight.{Sight}
 use Rattle.narrow.specs.Looked.{Looked}
 use Rattle.wide.specs.declared.told.Attempt.{Attempt}

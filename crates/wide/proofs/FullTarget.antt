@@ -42,7 +42,7 @@ use Rattle.descent.proofs.JudgingRows.{pair-modest}
 use Rattle.descent.proofs.GoingDown.{room-some}
 use Rattle.descent.proofs.AtOnce.{sighted, head-is, carry-leads, limb-leads}
 use Rattle.descent.proofs.AtGlance.{glance-exact, glance-plus, glance-minus, first-reached, first-open, first-full}
-use Rattle.ending.proofs.RegularEnd.{deep-enough}
+use Rattle.descent.proofs.RegularEnd.{deep-enough}
 use Rattle.wide.specs.Filling.{Holding, Offered, Rounds, Promptly}
 
 -- ---- what is held

@@ -47,7 +47,7 @@ use Rattle.descent.specs.Course.{Inside, Inland, Prompt, Sighted}
 use Rattle.descent.proofs.JudgingRange.{digits-some}
 use Rattle.descent.proofs.GoingDown.{room-some}
 use Rattle.descent.proofs.Inside.{inside-plus, inside-minus}
-use Rattle.ending.proofs.RegularEnd.{deep-enough}
+use Rattle.descent.proofs.RegularEnd.{deep-enough}
 use Rattle.wide.specs.Filling.{Holding, Rounds}
 use Rattle.wide.specs.Guarding.{Spent, Guards}
 use Rattle.wide.proofs.Level.{short-open}

@@ -39,7 +39,7 @@ use Rattle.descent.specs.Course.{Prompt, Sighted}
 use Rattle.descent.proofs.JudgingRange.{digits-some}
 use Rattle.descent.proofs.GoingDown.{room-some}
 use Rattle.descent.proofs.AtOnce.{head-is, prompt-open}
-use Rattle.ending.proofs.RegularEnd.{deep-enough}
+use Rattle.descent.proofs.RegularEnd.{deep-enough}
 use Rattle.wide.specs.Filling.{Holding, Rounds}
 use Rattle.wide.specs.Covering.{Covers}
 use Rattle.wide.proofs.Unread.{row-hole}

@@ -37,10 +37,10 @@ use Rattle.bridge.proofs.Decision.{leads}
 use Rattle.bridge.proofs.Covered.{columns-above}
 use Rattle.descent.specs.Ready.{Room}
 use Rattle.descent.specs.Course.{Course}
-use Rattle.ending.specs.Finishing.{Left}
+use Rattle.descent.specs.Finishing.{Left}
 use Rattle.reports.specs.Signed.{Signed}
-use Rattle.ending.proofs.RegularEnd.{deep-enough, not-deep, rounded-signed}
-use Rattle.ending.proofs.Handed.{ordered-pair, beq-turned, top-first, course-first}
+use Rattle.descent.proofs.RegularEnd.{deep-enough, not-deep, rounded-signed}
+use Rattle.descent.proofs.Handed.{ordered-pair, beq-turned, top-first, course-first}
 use Rattle.wide.specs.declared.filling.Filled.{Filled}
 use Rattle.wide.specs.Filling.{Holding, Offered, Rounds, Fills, FillsBy}
 use Rattle.reports.specs.Counts.{usedOf}

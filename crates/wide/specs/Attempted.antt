@@ -10,7 +10,7 @@ use Rattle.depth.specs.Bound.{deepest}
 use Rattle.depth.specs.Columns.{topExponent, limbsUsed}
 use Rattle.depth.specs.Depth.{plus, Depth}
 use Rattle.place.specs.declared.Placed.{Placed}
-use Rattle.ending.specs.Finishing.{Left}
+use Rattle.descent.specs.Finishing.{Left}
 use Rattle.reports.specs.Signed.{Signed}
 
 -- the answer's sign, what is told of it, and its limbs in the target; the depth, and the limbs used of each operand

@@ -5,7 +5,7 @@ use native.Mathlib.Omega.{arith}
 use mir.Facts.{toZ-ofZ}
 use Rattle.rounding.specs.Mode.{modeOf}
 use Rattle.checks.specs.Number.{operandOf}
-use Rattle.ending.proofs.Handed.{handed-some}
+use Rattle.descent.proofs.Handed.{handed-some}
 use Rattle.wide.proofs.InOrder.{gap-some, offered, holding, sign-told, attempted-told}
 use Rattle.aligned.proofs.AsFound.{sign-is}
 use Rattle.ways.proofs.Chosen.{lower-held, lower-offered}

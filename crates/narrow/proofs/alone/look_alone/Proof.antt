@@ -4,7 +4,7 @@ use native.Mathlib.Omega.{arith}
 use mir.Facts.{toZ-ofZ}
 use borrow.Author.Needs.{needs}
 use Rattle.narrow.specs.Sighting.{topLimb}
-use Rattle.ending.proofs.Handed.{handed-some}
+use Rattle.descent.proofs.Handed.{handed-some}
 use Rattle.narrow.proofs.Lone.{lone, alone-looked}
 use Rattle.narrow.proofs.alone.look_alone.Statement.{statement}
 use Rattle.narrow.proofs.alone.look_alone.Tie as tie

@@ -3,7 +3,7 @@ use mathlib.Core.Path.{refl}
 use native.Mathlib.Omega.{arith}
 use mir.Facts.{toZ-ofZ}
 use Rattle.narrow.specs.Sighting.{topLimb}
-use Rattle.ending.proofs.Handed.{handed-some}
+use Rattle.descent.proofs.Handed.{handed-some}
 use Rattle.narrow.proofs.InOrder.{gap-some, facing, looked}
 use borrow.Author.Needs.{needs}
 use Rattle.narrow.proofs.looking.look.Statement.{statement}

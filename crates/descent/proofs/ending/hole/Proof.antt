@@ -1,9 +1,9 @@
--- `ending::hole`: the second operand lies below all that is read, so the sum is the run with a little more or a little less. Assumes nothing.
+-- `descent::ending::hole`: the second operand lies below all that is read, so the sum is the run with a little more or a little less. Assumes nothing.
 use mathlib.Core.Path.{refl}
-use Rattle.ending.proofs.Finishing.{hole-ready, hole-more-left, hole-less-left}
+use Rattle.descent.proofs.Finishing.{hole-ready, hole-more-left, hole-less-left}
 use borrow.Author.Needs.{needs}
-use Rattle.ending.proofs.hole.Statement.{statement}
-use Rattle.ending.proofs.hole.Tie as tie
+use Rattle.descent.proofs.ending.hole.Statement.{statement}
+use Rattle.descent.proofs.ending.hole.Tie as tie
 
 sub-clear-low : tie.Need-sub-clear-low
 sub-clear-low c = search needs

@@ -1,9 +1,9 @@
--- `ending::refuse` clears the target and tells the rule. Assumes nothing.
+-- `descent::ending::refuse` clears the target and tells the rule. Assumes nothing.
 use mathlib.Core.Path.{refl}
 use borrow.Author.Needs.{needs}
 use Rattle.place.specs.Rounded.{refusedBy}
-use Rattle.ending.proofs.refuse.Statement.{statement}
-use Rattle.ending.proofs.refuse.Tie as tie
+use Rattle.descent.proofs.ending.refuse.Statement.{statement}
+use Rattle.descent.proofs.ending.refuse.Tie as tie
 
 clear-requires : tie.Need-clear-requires
 clear-requires c κs = search needs

@@ -1,8 +1,8 @@
--- `ending::fixed`: the run in the target is D as far as its digits matter, moved up or cut, and what is cut off counts as more. Assumes nothing.
-use Rattle.ending.proofs.Finishing.{fixed-left}
+-- `descent::ending::fixed`: the run in the target is D as far as its digits matter, moved up or cut, and what is cut off counts as more. Assumes nothing.
+use Rattle.descent.proofs.Finishing.{fixed-left}
 use borrow.Author.Needs.{needs}
-use Rattle.ending.proofs.fixed.Statement.{statement}
-use Rattle.ending.proofs.fixed.Tie as tie
+use Rattle.descent.proofs.ending.fixed.Statement.{statement}
+use Rattle.descent.proofs.ending.fixed.Tie as tie
 
 sub-clear-low : tie.Need-sub-clear-low
 sub-clear-low c = search needs

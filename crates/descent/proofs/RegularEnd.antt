@@ -38,12 +38,12 @@ use Rattle.bridge.proofs.Read.{read-later}
 use Rattle.bridge.proofs.Answers.{sum-pos}
 use Rattle.bridge.proofs.Theorems.{level-open}
 use Rattle.bridge.proofs.Covered.{columns-above}
 use Rattle.descent.specs.declared.going.Verdict.{Verdict}
 use Rattle.descent.specs.declared.going.Verdict.the-variants as verdict
 use Rattle.descent.specs.declared.going.Walked.{Walked}
 use Rattle.descent.specs.Ready.{Room}
 use Rattle.descent.specs.Course.{Course, Judged, Stopped}
-use Rattle.ending.specs.Finishing.{Ending, Left, HoleSays}
+use Rattle.descent.specs.Finishing.{Ending, Left, HoleSays}
 use Rattle.reports.specs.Signed.{Signed}
 
 pub deep-enough : 66 ≤ deepest

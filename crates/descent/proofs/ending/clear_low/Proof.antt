@@ -1,4 +1,4 @@
--- `ending::clear_low` is right since after i turns the lowest i limbs are 0 and the others as they were. Assumes nothing.
+-- `descent::ending::clear_low` is right since after i turns the lowest i limbs are 0 and the others as they were. Assumes nothing.
 use mathlib.Core.Path.{_≡_, refl, ap, _∙_}
 use mathlib.Core.List.{List, _++_}
 use Prim.Native.Nat.{ℕ, _-_, _≤_, _<_}
@@ -6,9 +6,9 @@ use native.Mathlib.Omega.{arith}
 use lib.ListN.{length, drop, set, replicate, length-set}
 use borrow.Author.Fill.{fill-more}
 use borrow.Author.Needs.{needs}
-use Rattle.ending.proofs.Finishing.{cleared}
-use Rattle.ending.proofs.clear_low.Statement.{statement}
-use Rattle.ending.proofs.clear_low.Tie as tie
+use Rattle.descent.proofs.Finishing.{cleared}
+use Rattle.descent.proofs.ending.clear_low.Statement.{statement}
+use Rattle.descent.proofs.ending.clear_low.Tie as tie
 
 abbrev Inv-loop : tie.InvT-loop
 Inv-loop target₀ n i₀ target i =

@@ -1,8 +1,8 @@
--- `ending::less`: one is taken off the guard, or off the target with a guard of all ones left. Assumes nothing.
-use Rattle.ending.proofs.Finishing.{less-guard, less-fall}
+-- `descent::ending::less`: one is taken off the guard, or off the target with a guard of all ones left. Assumes nothing.
+use Rattle.descent.proofs.Finishing.{less-guard, less-fall}
 use borrow.Author.Needs.{needs}
-use Rattle.ending.proofs.less.Statement.{statement}
-use Rattle.ending.proofs.less.Tie as tie
+use Rattle.descent.proofs.ending.less.Statement.{statement}
+use Rattle.descent.proofs.ending.less.Tie as tie
 
 sub-round-run : tie.Need-sub-round-run
 sub-round-run c = search needs

@@ -1,8 +1,8 @@
--- `ending::holds_more`: a tail of ones or of mixed digits is no 0, and the others are. Assumes nothing.
-use Rattle.ending.proofs.Parts.{empty-more, zeros-more, ones-more, mixed-more}
+-- `descent::ending::holds_more`: a tail of ones or of mixed digits is no 0, and the others are. Assumes nothing.
+use Rattle.descent.proofs.Parts.{empty-more, zeros-more, ones-more, mixed-more}
 use borrow.Author.Needs.{needs}
-use Rattle.ending.proofs.holds_more.Statement.{statement}
-use Rattle.ending.proofs.holds_more.Tie as tie
+use Rattle.descent.proofs.ending.holds_more.Statement.{statement}
+use Rattle.descent.proofs.ending.holds_more.Tie as tie
 
 enum-told : tie.Need-enum-told
 enum-told c = search needs

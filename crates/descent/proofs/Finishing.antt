@@ -37,8 +37,8 @@ use Rattle.walk.specs.Change.{Fallen}
 use Rattle.walk.specs.Window.{headOf, TailIs, Shows}
 use Rattle.walk.proofs.Showing.{whole-shows, tailed-shows, columns-open, columns-guarded}
 use Rattle.bridge.proofs.Refine.{enough-digits, refine, refine-less, refine-borrow, scaled-up}
 use Rattle.descent.specs.Ready.{Room}
-use Rattle.ending.specs.Finishing.{Cleared, Ending, Left, HoleSays}
+use Rattle.descent.specs.Finishing.{Cleared, Ending, Left, HoleSays}
 use Rattle.settle.specs.declared.rows.Pair.{Pair}
 use Rattle.bridge.specs.Verdict.{holeWay}
 

@@ -33,10 +33,10 @@ use Rattle.bridge.proofs.Told.{pair-same, pair-gap, pair-second, pair-first}
 use Rattle.bridge.proofs.Decision.{equal-decision}
 use Rattle.bridge.proofs.Answers.{cancelled-sum}
 use Rattle.bridge.proofs.Covered.{columns-above}
 use Rattle.descent.specs.Ready.{Room}
 use Rattle.descent.proofs.JudgingRange.{digits-some}
-use Rattle.ending.specs.Level.{Level}
-use Rattle.ending.proofs.RegularEnd.{deep-enough}
+use Rattle.descent.specs.Level.{Level}
+use Rattle.descent.proofs.RegularEnd.{deep-enough}
 
 -- the limbs of an operand are few
 pub limbs-few : (x : Operand) → WellFormed x → length (x .limbs) ≤ 64

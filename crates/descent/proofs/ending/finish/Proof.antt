@@ -1,8 +1,8 @@
--- `ending::finish`: each verdict says what the sum is, and each is rounded, or refused, as it says. Assumes nothing.
-use Rattle.ending.proofs.RegularEnd.{open-never, fixed-told, hole-told, refused-told}
+-- `descent::ending::finish`: each verdict says what the sum is, and each is rounded, or refused, as it says. Assumes nothing.
+use Rattle.descent.proofs.RegularEnd.{open-never, fixed-told, hole-told, refused-told}
 use borrow.Author.Needs.{needs}
-use Rattle.ending.proofs.finish.Statement.{statement}
-use Rattle.ending.proofs.finish.Tie as tie
+use Rattle.descent.proofs.ending.finish.Statement.{statement}
+use Rattle.descent.proofs.ending.finish.Tie as tie
 
 enum-told : tie.Need-enum-told
 enum-told c = search needs

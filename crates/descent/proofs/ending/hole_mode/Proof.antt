@@ -1,7 +1,7 @@
--- `ending::hole_mode`: only nearest has a tie, and the second operand lies above it or below. Assumes nothing.
-use Rattle.ending.proofs.Parts.{mode-other, mode-apart, mode-less, mode-more-down, mode-more-up}
-use Rattle.ending.proofs.hole_mode.Statement.{statement}
-use Rattle.ending.proofs.hole_mode.Tie as tie
+-- `descent::ending::hole_mode`: only nearest has a tie, and the second operand lies above it or below. Assumes nothing.
+use Rattle.descent.proofs.Parts.{mode-other, mode-apart, mode-less, mode-more-down, mode-more-up}
+use Rattle.descent.proofs.ending.hole_mode.Statement.{statement}
+use Rattle.descent.proofs.ending.hole_mode.Tie as tie
 
 returns : tie.Need-returns
 returns c = mode-other _ _ _ _ (c .if1 .taken)

@@ -1,5 +1,0 @@
-pub mod Finishing
-pub mod Parts
-pub mod RegularEnd
-pub mod Handed
-pub mod Cancelled

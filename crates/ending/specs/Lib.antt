@@ -1,2 +1,0 @@
-pub mod Finishing
-pub mod Level
