@@ -5,7 +5,7 @@
 #     make check                the C examples: built, run, compared with what is stored
 #     make check-install        the same example over an installation, found by pkg-config
 #     make rust-example         the Rust example: built, run, compared with what is stored
-#     make rust-test            the Rust crate's tests: its documentation's examples, and some 128,000 cases against oracle/
+#     make rust-test            the Rust crate's tests: its documentation's examples, and some 130,000 cases against oracle/
 #     make bench                the measurements against MPFR, with their table and plot (needs MPFR)
 PREFIX ?= /usr/local
 DESTDIR ?=
