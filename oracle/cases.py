@@ -369,10 +369,14 @@ def boundaries():
     Tails of no, one or many digits stay unread below column 0 or 1; the sum
     stands in the middle of the exponent range or at either end of it.
     """
-    draw = Draw("boundaries")
+    yield from drawn(Draw("boundaries"), boundary_case, 2400)
+
+
+def drawn(draw, make, count):
+    """So many cases of a maker that gives None where it has none."""
     made = 0
-    while made < 2400:
-        case = boundary_case(draw)
+    while made < count:
+        case = make(draw)
         if case is not None:
             made += 1
             yield case
@@ -413,13 +417,7 @@ def boundary_sum(draw, p, drop):
 
 def stretches():
     """Columns after the first that are all zeros or all ones, and then one that need not be, or the end."""
-    draw = Draw("stretches")
-    made = 0
-    while made < 500:
-        case = stretch_case(draw)
-        if case is not None:
-            made += 1
-            yield case
+    yield from drawn(Draw("stretches"), stretch_case, 500)
 
 
 def stretch_case(draw):
