@@ -1,4 +1,5 @@
 pub mod Signed
+pub mod Zeros
 pub mod Tests
 pub mod Tables
 pub mod Form

@@ -2,18 +2,20 @@
 use mathlib.Core.Path.{_≡_, refl, sym}
 use mathlib.Core.Bool.{Bool, true, false, _&&_}
 use mathlib.Core.List.{List, [], _∷_}
-use Prim.Native.Nat.{ℕ, _-_, _*_, _%_, _^_, _<_}
-use native.Mathlib.Nat.{mod-eq-of-lt, one-mul}
+use Prim.Native.Nat.{ℕ, _-_, _%_, _^_, _<_}
+use native.Mathlib.Nat.{mod-eq-of-lt, le-of-lt}
 use native.Mathlib.Omega.{arith}
+use lib.Count.{trailingZeros}
 use lib.Dec.{leb, eqb}
-use lib.ListN.{length, getD}
-use lib.Pow.{pow-pos, pow-lt}
+use lib.ListN.{length}
+use lib.Pow.{pow-pos}
 use borrow.Author.Tests.{eq-eqb}
 use Rattle.numbers.specs.Limits.{counted, bias, leastExponent, mostExponent, limbsFor}
 use Rattle.numbers.specs.Operand.{spareBits}
 use Rattle.checks.specs.declared.Number.{Number}
 use Rattle.checks.specs.Number.{operandOf, isZeroKind}
 use Rattle.checks.specs.Check.{exponentHolds, formHolds, topBitHolds, spareBitsHold}
+use Rattle.checks.proofs.Zeros.{zeros-divide}
 
 module _ (x : Number) where
   pub zero-exponent : (e : ℕ) → isZeroKind (x .kind) ≡ true → e ≡ counted (x .exponent) → eqb e 1099511627776 ≡ exponentHolds (operandOf x [])
@@ -54,14 +56,7 @@ spare-is p = omega arith
 pub spare-lt : (p : ℕ) → spareBits p < 64
 spare-lt p = omega (arith, spare-is p)
 
--- a divisor that is 1 moved up by s
-module _ (p s : ℕ) (e : s ≡ spareBits p) where
-  divisor-is : 1 * 2 ^ s % 18446744073709551616 ≡ 2 ^ spareBits p
-  divisor-is = rw (e, one-mul (2 ^ spareBits p)) (mod-eq-of-lt (pow-lt (spare-lt p)))
-
-  pub divisor-pos : 0 < 1 * 2 ^ s % 18446744073709551616
-  divisor-pos = rw divisor-is (pow-pos (spareBits p))
-
-  pub spare-test : (l : List ℕ) → eqb (getD l 0 0 % (1 * 2 ^ s % 18446744073709551616)) 0 ≡ spareBitsHold p l
-  unfolding spareBitsHold
-  spare-test l = rw divisor-is
+-- no spare bit is set exactly where at least as many zeros stand below the lowest set digit
+pub spare-zeros : (p low : ℕ) → leb ((64 - p % 64) % 64) (trailingZeros 64 low) ≡ spareBitsHold p (low ∷ [])
+unfolding spareBitsHold
+spare-zeros p low = rw (spare-is p) (zeros-divide 64 low (spareBits p) (le-of-lt (spare-lt p)))

@@ -150,7 +150,7 @@ pub fn low_holds(p: u64, low: u64) -> bool
     ensures { λ r. ⌜ r ≡ spareBitsHold p (low ∷ []) ⌝ }
 {
     let spare = (64 - p % 64) % 64;
-    low % (1 << spare) == 0
+    spare <= (u64::trailing_zeros(low) as u64)
 }
 
 // 5: the spare bits of the lowest limb are 0.
