@@ -60,6 +60,17 @@ module _ (mode p : ℕ) (negative : Bool) (unit : ℕ) (carry : Bool) (t : List 
       → x ≡ roundedLimbs mode p negative unit carry t guard more → y ≡ roundedLimbs mode p negative unit carry t guard more → (r ≡ s) × (x ≡ y)
   rounded-unique r s x y a b c d = (a ∙ sym b, c ∙ sym d)
 
+-- what a run with the same answer is rounded to, the run is rounded to
+module _ (mode p : ℕ) (negative : Bool) (unit : ℕ) (carry : Bool) (t : List ℕ) (guard : ℕ) (more : Bool) (unit-too : ℕ) (carry-too : Bool) (u : List ℕ) (guard-too : ℕ) (more-too : Bool)
+    (pass : runRule p carry t unit ≡ 0) (pass-too : runRule p carry-too u unit-too ≡ 0)
+    (same : answered mode p negative unit-too carry-too u guard-too more-too ≡ answered mode p negative unit carry t guard more) where
+  pub same-rounds : (q : Placed) (l : List ℕ) → q ≡ roundedPlaced mode p negative unit-too carry-too u guard-too more-too → l ≡ roundedLimbs mode p negative unit-too carry-too u guard-too more-too
+      → (q ≡ roundedPlaced mode p negative unit carry t guard more) × (l ≡ roundedLimbs mode p negative unit carry t guard more)
+  same-rounds q l e f = (
+    e ∙ placed-passed mode p negative unit-too carry-too u guard-too more-too pass-too ∙ ap placedOf same ∙ sym (placed-passed mode p negative unit carry t guard more pass),
+    f ∙ limbs-passed mode p negative unit-too carry-too u guard-too more-too pass-too ∙ ap (limbsAfter p) same ∙ sym (limbs-passed mode p negative unit carry t guard more pass),
+  )
+
 -- ---- rounded
 
 module _ (mode p : ℕ) (negative : Bool) (unit : ℕ) (carry : Bool) (t : List ℕ) (guard : ℕ) (more : Bool) (d s : ℕ)

@@ -3,6 +3,7 @@ pub mod Placing
 pub mod Rules
 pub mod Finer
 pub mod Normalized
+pub mod Lowered
 pub mod Exact
 pub mod ExactOne
 pub mod Around

@@ -18,30 +18,30 @@ use Rattle.rounding.specs.Answer.{rounded}
 use Rattle.place.specs.declared.Placed.{Placed}
 use Rattle.place.specs.declared.one.Normal.{Normal}
 use Rattle.place.specs.Normal.{Normalized}
-use Rattle.place.specs.Placed.{runNumber, runAnswer, runRule, placedOf, limbsAfter}
+use Rattle.place.specs.Placed.{runNumber, runAnswer, runRule}
 use Rattle.place.specs.Rounded.{roundedPlaced, roundedLimbs}
 use Rattle.kept.specs.Walk.{headed, whole, Reaches}
-use Rattle.place.proofs.Answer.{placed-passed, limbs-passed}
+use Rattle.place.proofs.Answer.{same-rounds}
 use Rattle.place.proofs.Finer.{finer}
 use Rattle.kept.proofs.Moves.{limb-raised, top-few, limb-lowered, zeros-top}
 use Rattle.kept.proofs.OneLimb.{one-value, one-reaches}
 use Rattle.kept.proofs.Reaching.{headed-true, headed-false, whole-lt, whole-ge}
 use Rattle.place.proofs.Rules.{Passed, passed, rule-none}
 
-differ : {A : Type 0} {b : Bool} → b ≡ true → b ≡ false → A
+pub differ : {A : Type 0} {b : Bool} → b ≡ true → b ≡ false → A
 differ e f = let z : _≡_ {A = ℕ} 0 1 = cc in absurd (omega arith)
 
 -- ---- what a run of one limb is worth
 
 module _ (b : Bool) (x g : ℕ) where
-  whole-carried : b ≡ true → whole b (x ∷ []) g ≡ (x + 2 ^ 64) * 2 ^ 64 + g
+  pub whole-carried : b ≡ true → whole b (x ∷ []) g ≡ (x + 2 ^ 64) * 2 ^ 64 + g
   unfolding whole
   whole-carried e = ap (λ (n : ℕ). n * 2 ^ 64 + g) (headed-true b (x ∷ []) e ∙ ap (λ (n : ℕ). 2 ^ 64 + n) (one-value x) ∙ swap (2 ^ 64) x)
     where
       swap : (a b : ℕ) → a + b ≡ b + a
       swap a b = omega arith
 
-  whole-plain : b ≡ false → whole b (x ∷ []) g ≡ x * 2 ^ 64 + g
+  pub whole-plain : b ≡ false → whole b (x ∷ []) g ≡ x * 2 ^ 64 + g
   unfolding whole
   whole-plain e = ap (λ (n : ℕ). n * 2 ^ 64 + g) (headed-false b (x ∷ []) e ∙ one-value x)
 
@@ -146,6 +146,14 @@ module _ (b : Bool) (x g : ℕ) (more : Bool) (u : ℕ) (lt : x < 2 ^ 64) (few :
 
 -- ---- the answer is the same
 
+-- another limb in the place of one that the rules let pass
+pub also-passes : (p : ℕ) (b : Bool) (x : ℕ) (u : ℕ) → runRule p b (x ∷ []) u ≡ 0 → (l v : ℕ) → 2 ^ 63 ≤ l → 0 < v → v ≤ 2 * mostExponent → runRule p false (l ∷ []) v ≡ 0
+unfolding leastPrecision mostPrecision
+also-passes p b x u pass l v first some most =
+    let ok = passed p b (x ∷ []) u pass in
+    sym (rule-none p false (l ∷ []) v (and-both (le-leb 2 p (ok .least)) (le-leb p 4096 (ok .most))) (eq-eqb 1 (limbsFor p) (ok .count)) (and-both (lt-ltb 0 v some) (le-leb v (2 * mostExponent) most))
+    (lt-ltb 0 l (omega (arith, first))))
+
 module _ (mode p : ℕ) (negative : Bool) (u : ℕ) (b : Bool) (x g : ℕ) (more : Bool) (r : Normal) (pass : runRule p b (x ∷ []) u ≡ 0) (over : 64 < u) (under : u < 2 * mostExponent)
     (lt : r .limb < 2 ^ 64) (few : r .guard < 2 ^ 64) (n : Normalized b x g more u r) where
   ok : Passed p b (x ∷ []) u
@@ -239,15 +247,9 @@ module _ (mode p : ℕ) (negative : Bool) (u : ℕ) (b : Bool) (x g : ℕ) (more
       go false e = let f = n .plain e in (omega (arith, f .3), omega (arith, f .2))
 
   pub normal-passes : runRule p false (r .limb ∷ []) (r .unit) ≡ 0
-  unfolding leastPrecision mostPrecision
-  normal-passes =
-      sym (rule-none p false (r .limb ∷ []) (r .unit) (and-both (le-leb 2 p (ok .least)) (le-leb p 4096 (ok .most))) (eq-eqb 1 (limbsFor p) (ok .count))
-      (and-both (lt-ltb 0 (r .unit) (unit-fits .0)) (le-leb (r .unit) (2 * mostExponent) (unit-fits .1))) (lt-ltb 0 (r .limb) (omega (arith, n .first))))
+  normal-passes = also-passes p b x u pass (r .limb) (r .unit) (n .first) (unit-fits .0) (unit-fits .1)
 
   -- what the normal run is rounded to, the run is rounded to
   pub normal-rounds : (q : Placed) (l : List ℕ) → q ≡ roundedPlaced mode p negative (r .unit) false (r .limb ∷ []) (r .guard) (r .more) → l ≡ roundedLimbs mode p negative (r .unit) false (r .limb ∷ []) (r .guard) (r .more)
       → (q ≡ roundedPlaced mode p negative u b (x ∷ []) g more) × (l ≡ roundedLimbs mode p negative u b (x ∷ []) g more)
-  normal-rounds q l e f = (
-    e ∙ placed-passed mode p negative (r .unit) false (r .limb ∷ []) (r .guard) (r .more) normal-passes ∙ ap placedOf same-answer ∙ sym (placed-passed mode p negative u b (x ∷ []) g more pass),
-    f ∙ limbs-passed mode p negative (r .unit) false (r .limb ∷ []) (r .guard) (r .more) normal-passes ∙ ap (limbsAfter p) same-answer ∙ sym (limbs-passed mode p negative u b (x ∷ []) g more pass),
-  )
+  normal-rounds = same-rounds mode p negative u b (x ∷ []) g more (r .unit) false (r .limb ∷ []) (r .guard) (r .more) pass normal-passes same-answer

@@ -31,7 +31,9 @@ use limits::settle_limb;
 use location::locate;
 use location::rounds_up;
 use location::ternary;
+pub use one::round_carried;
 pub use one::round_one;
+pub use one::round_raised;
 pub use one::settle_one;
 
 // The rule by which the run is refused, or 0; the counted exponent and the ternary value of what is selected.
