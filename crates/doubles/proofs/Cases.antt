@@ -19,7 +19,7 @@ use Rattle.numbers.specs.Operand.{Operand, mantissa, lastWeight, spareBits, Wel
 use Rattle.numbers.proofs.Digits.{mantissa-ge}
 use Rattle.rounding.specs.Mode.{modeOf, way}
 use Rattle.rounding.specs.Select.{chosen}
-use Rattle.rounding.specs.Answer.{Answer, number, tooLarge, tooSmall, ranged, digits, signed, rounded}
+use Rattle.rounding.specs.Answer.{Answer, zeroOf, number, tooLarge, tooSmall, ranged, digits, signed, rounded}
 use Rattle.rounding.proofs.Order.{le-or-lt}
 use Rattle.rounding.proofs.Between.{is-large, is-small, is-in}
 use Rattle.rounding.proofs.Scale.{chosen-pos}
@@ -186,8 +186,8 @@ told-zero mode x z = rw (z, bits-back (signBit (x .negative)) (zero-lt (x .negat
 
 -- ---- a number to a double
 
-pub zero-case : (mode : ℕ) (x : Operand) (r : Converted) → x .isZero ≡ true → r ≡ Exact (double (signBit (x .negative))) → r ≡ doubleCase (inDoubles mode x)
-unfolding inDoubles convertedIn doubleCase
+pub zero-case : (mode : ℕ) (x : Operand) (r : Converted) → x .isZero ≡ true → r ≡ doubleCase (zeroOf (x .negative)) → r ≡ doubleCase (inDoubles mode x)
+unfolding inDoubles convertedIn
 zero-case mode x r z e = rw z e
 
 module _ (mode : ℕ) (x : Operand) (g : WellFormed x) (z : x .isZero ≡ false) where
@@ -295,6 +295,11 @@ module _ (down up : Converted) where
   unfolding pairOf accepted
   both-ends a b v w f h i j k l = rw (← f, eq-eqb (a .rule) 0 h, ← i, eq-eqb (b .rule) 0 j, k, l) refl
 
+-- the down answer and the up answer are those of mode 3 and mode 2
+pub paired-ends : (x : Operand) (down up : Converted) (e : Enclosed) → down ≡ doubleCase (inDoubles 3 x) → up ≡ doubleCase (inDoubles 2 x) → e ≡ pairOf down up
+    → e ≡ pairOf (doubleCase (inDoubles 3 x)) (doubleCase (inDoubles 2 x))
+paired-ends x down up e i j k = rw (← i, ← j) k
+
 module _ (x : Operand) (r : Refusal) (r-is : r ≡ aloneRefusal x) where
   pub refused-pair : (e : Enclosed) → (r .rule ≡ 0 → ⊥) → e ≡ unenclosedBy r → e ≡ enclosedOf x
   unfolding enclosedOf
@@ -303,6 +308,6 @@ module _ (x : Operand) (r : Refusal) (r-is : r ≡ aloneRefusal x) where
   pub alone-formed : ((i : ℕ) → getD (x .limbs) i 0 < 2 ^ 64) → r .rule ≡ 0 → WellFormed x
   alone-formed b h = accepted-alone x b (alone-unrefused x (ap (λ (a : Refusal). a .rule) (sym r-is) ∙ h))
 
-  pub accepted-pair : (e : Enclosed) (down up : Converted) → r .rule ≡ 0 → down ≡ doubleCase (inDoubles 3 x) → up ≡ doubleCase (inDoubles 2 x) → e ≡ pairOf down up → e ≡ enclosedOf x
+  pub accepted-pair : (e : Enclosed) → r .rule ≡ 0 → e ≡ pairOf (doubleCase (inDoubles 3 x)) (doubleCase (inDoubles 2 x)) → e ≡ enclosedOf x
   unfolding enclosedOf
-  accepted-pair e down up h i j k = rw (← r-is, eq-eqb (r .rule) 0 h, ← i, ← j) k
+  accepted-pair e h k = rw (← r-is, eq-eqb (r .rule) 0 h) k

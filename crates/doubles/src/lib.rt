@@ -1,9 +1,13 @@
 // Numbers to doubles, and to an enclosing pair of doubles. A double is stated by its bits.
 use checks::Number;
 use checks::Refusal;
+use select::Selected;
 ghost use mathlib.Core.Path.{_≡_};
+ghost use mathlib.Core.Bool.{false};
 ghost use Rattle.numbers.specs.Operand.{WellFormed};
-ghost use Rattle.checks.specs.Number.{operandOf};
+ghost use Rattle.rounding.specs.Answer.{zeroOf};
+ghost use Rattle.checks.specs.Number.{isZeroKind, operandOf};
+ghost use Rattle.select.specs.Steps.{Selects};
 ghost use Rattle.doubles.specs.Convert.{outside, caseOf, doubleCase, inDoubles, convertedOf, told, toldOf};
 ghost use Rattle.doubles.specs.Enclose.{endOf, refusalOf, unenclosedBy, pairOf, enclosedOf};
 
@@ -48,15 +52,11 @@ fn refused(rule: u8) -> Converted
     Converted::Refused(Refusal { rule, place: 0 })
 }
 
-// The double that a mode selects for a number of good form: 53 digits first, and then the range is judged.
-fn convert(mode: u8, x: Number, xl: &[u64]) -> Converted
-    requires { ⌜ WellFormed (operandOf x (now xl)) ⌝ }
+// The double of the 53 digits that a mode selects of a regular number, once the range is judged.
+fn judged(mode: u8, x: Number, xl: &[u64], s: Selected) -> Converted
+    requires { ⌜ WellFormed (operandOf x (now xl)) × (isZeroKind (x .kind) ≡ false) × Selects mode (operandOf x (now xl)) s ⌝ }
     ensures { λ r. ⌜ r ≡ doubleCase (inDoubles mode (operandOf x (now (xl .entry)))) ⌝ }
 {
-    if checks::is_zero(x) {
-        return Converted::Exact(pack::zero_of(x.negative));
-    }
-    let s = select::select(mode, x, xl);
     let placed = s.placed;
     if placed.rule == 6 {
         return refused(12);
@@ -69,6 +69,25 @@ fn convert(mode: u8, x: Number, xl: &[u64]) -> Converted
     }
     let double = pack::pack(x.negative, placed.exponent, s.limb);
     answer(placed.ternary, double)
+}
+
+// The exact zero of a zero's sign.
+fn zero_exact(negative: bool) -> Converted
+    ensures { λ r. ⌜ r ≡ doubleCase (zeroOf negative) ⌝ }
+{
+    Converted::Exact(pack::zero_of(negative))
+}
+
+// The double that a mode selects for a number of good form: 53 digits first, and then the range is judged.
+fn convert(mode: u8, x: Number, xl: &[u64]) -> Converted
+    requires { ⌜ WellFormed (operandOf x (now xl)) ⌝ }
+    ensures { λ r. ⌜ r ≡ doubleCase (inDoubles mode (operandOf x (now (xl .entry)))) ⌝ }
+{
+    if checks::is_zero(x) {
+        return zero_exact(x.negative);
+    }
+    let a = select::leading(xl, x.precision);
+    judged(mode, x, xl, select::select(mode, x, xl, a))
 }
 
 // A number to a double under a mode, once refusals 1 to 5 are checked.
@@ -141,6 +160,17 @@ fn pair_of(down: Converted, up: Converted) -> Enclosed
     }
 }
 
+// The pair of a regular number of good form; its leading digits are read once for both ends.
+fn enclose_regular(x: Number, xl: &[u64]) -> Enclosed
+    requires { ⌜ WellFormed (operandOf x (now xl)) × (isZeroKind (x .kind) ≡ false) ⌝ }
+    ensures { λ r. ⌜ r ≡ pairOf (doubleCase (inDoubles 3 (operandOf x (now (xl .entry))))) (doubleCase (inDoubles 2 (operandOf x (now (xl .entry))))) ⌝ }
+{
+    let a = select::leading(xl, x.precision);
+    let down = judged(3, x, xl, select::select(3, x, xl, a));
+    let up = judged(2, x, xl, select::select(2, x, xl, a));
+    pair_of(down, up)
+}
+
 // A number to the enclosing pair of doubles, once refusals 2 to 5 are checked.
 pub fn enclose(x: Number, xl: &[u64]) -> Enclosed
     ensures { λ r. ⌜ r ≡ enclosedOf (operandOf x (now (xl .entry))) ⌝ }
@@ -149,7 +179,9 @@ pub fn enclose(x: Number, xl: &[u64]) -> Enclosed
     if refusal.rule != 0 {
         return unenclosed(refusal);
     }
-    let down = convert(3, x, xl);
-    let up = convert(2, x, xl);
-    pair_of(down, up)
+    if checks::is_zero(x) {
+        let zero = zero_exact(x.negative);
+        return pair_of(zero, zero);
+    }
+    enclose_regular(x, xl)
 }

@@ -34,6 +34,7 @@ fn rest_below(limbs: &[u64], precision: u64) -> bool
     !shifts::low_is_zero(&limbs[1..], 64 * (n - 3))
 }
 
+// The leading digits of a number's limbs.
 pub fn leading(limbs: &[u64], precision: u64) -> Head
     requires { ⌜ (0 < length (now limbs)) × (length (now limbs) ≤ 64) ⌝ }
     ensures { λ r. ⌜ Leads (now (limbs .entry)) r ⌝ }
@@ -65,12 +66,11 @@ pub struct Selected {
     pub limb: u64,
 }
 
-// Of a regular number of good form.
-pub fn select(mode: u8, x: Number, xl: &[u64]) -> Selected
-    requires { ⌜ WellFormed (operandOf x (now xl)) × (isZeroKind (x .kind) ≡ false) ⌝ }
+// Of a regular number of good form, by its leading digits.
+pub fn select(mode: u8, x: Number, xl: &[u64], a: Head) -> Selected
+    requires { ⌜ WellFormed (operandOf x (now xl)) × (isZeroKind (x .kind) ≡ false) × Leads (now xl) a ⌝ }
     ensures { λ r. ⌜ Selects mode (operandOf x (now (xl .entry))) r ⌝ }
 {
-    let a = leading(xl, x.precision);
     let unit = checks::counted_exponent(x.exponent) - 128;
     let r = place::round_limb(x.negative, a.top, a.guard, a.more, unit, 53, mode);
     let placed = r.placed;
