@@ -1,7 +1,7 @@
--- Laws of limbs copied from the lowest up: one more, four more, all. Assumes nothing.
+-- Laws of limbs copied from the lowest up: one more, four more, all, and of room for eight more. Assumes nothing.
 use mathlib.Core.Path.{_≡_, refl, sym, ap, _∙_}
 use mathlib.Core.List.{List, [], _∷_, _++_}
-use Prim.Native.Nat.{ℕ, _+_, _≤_, _<_}
+use Prim.Native.Nat.{ℕ, _+_, _%_, _≤_, _<_}
 use native.Mathlib.Nat.{add-assoc}
 use native.Mathlib.Numerals.{add-one}
 use native.Mathlib.Omega.{arith}
@@ -35,6 +35,10 @@ four-copied s t i h a =
     let two : CopiedTo (i + 2) s (set (set t i (getD s i 0)) (i + 1) (getD s (i + 1) 0)) = two-copied s t i (omega arith) a in
     rw (add-assoc i 2 1, add-assoc i 2 2) at
     (two-copied s _ (i + 2) (omega (arith, h, two .same-length, a .same-length)) two)
+
+-- between a multiple of 8 and a greater one there is room for eight limbs
+pub eight-fit : (i end : ℕ) → i % 8 ≡ 0 → end % 8 ≡ 0 → i < end → i + 8 ≤ end
+eight-fit i end a b h = omega arith
 
 -- no limb is left
 pub all-copied : (s t : List ℕ) (i : ℕ) → length s ≤ i → CopiedTo i s t → t ≡ s

@@ -63,8 +63,9 @@ pub fn copy(target: &mut [u64], source: &[u64])
     requires { ⌜ length (now source) ≡ length (now target) ⌝ }
     ensures { λ r. ⌜ now (target .exit) ≡ now (source .entry) ⌝ }
 {
+    let end = target.len() - target.len() % 8;
     let mut i = 0;
-    while i + 8 <= target.len() {
+    while i < end {
         copy_four(target, source, i);
         copy_four(target, source, i + 4);
         i += 8;
