@@ -1,13 +1,14 @@
 -- Two operands of one exponent: the first column in which they differ, and exact cancellation. Assumes nothing.
-use mathlib.Core.Path.{_≡_, refl, sym, ap, _∙_}
+use mathlib.Core.Path.{_≡_, refl, sym, ap, _∙_, subst}
 use mathlib.Core.List.{List}
-use Prim.Native.Nat.{ℕ, suc, _+_, _*_, _/_, _%_, _^_, _≤_, _<_}
+use Prim.Native.Nat.{ℕ, suc, _+_, _-_, _*_, _/_, _%_, _^_, _≤_, _<_}
 use native.Mathlib.Numerals.{add-one}
 use native.Mathlib.Nat.{div-add-mod'}
 use native.Mathlib.Omega.{arith}
-use lib.ListN.{length}
+use lib.ListN.{length, getD}
+use borrow.Author.Tests.{lt-ltb}
 use Rattle.bridge.proofs.Told.{pair-same}
-use Rattle.columns.specs.Column.{readTo, columnOf}
+use Rattle.columns.specs.Column.{readTo, columnOf, limbBelow}
 use mathlib.Core.Bool.{Bool, true, false, Bool·beq, true≢false}
 use Prim.Native.Nat.{max, zero-le}
 use lib.ListN.{replicate}
@@ -19,7 +20,7 @@ use Rattle.rounding.specs.Sum.{zeroSign}
 use Rattle.depth.specs.Depth.{plus, result}
 use Rattle.place.specs.Placed.{limbsAfter}
 use Rattle.bridge.specs.Verdict.{pairOf, Ordered}
-use Rattle.columns.proofs.Reading.{read-fewer, read-early}
+use Rattle.columns.proofs.Reading.{read-fewer, read-early, column-whole}
 use Rattle.bridge.proofs.Decision.{leads}
 use Rattle.reports.specs.declared.report.Sum.{Sum}
 use Rattle.numbers.specs.Limits.{counted}
@@ -58,6 +59,58 @@ module _ (k : ℕ) (x y : List ℕ) (e : readTo k 0 y ≡ readTo k 0 x) (u v : �
     where
       go : u ≤ v → v ≤ u → v ≡ u
       go h l = omega arith
+
+-- ---- two runs of as many limbs, from the top down
+
+-- below k columns of a run at the top of column 0 stands limb i - 1, where i are left
+limb-column : (l : List ℕ) → Below (2 ^ 64) l → (k i : ℕ) → 0 < i → k + i ≡ length l → getD l (i - 1) 0 ≡ columnOf k 0 l
+unfolding limbBelow
+limb-column l h k i some left =
+    let within : limbBelow k l ≡ getD l (length l - suc k) 0 = rw (lt-ltb k (length l) (omega arith)) refl in
+    let at : i - 1 ≡ length l - suc k = omega arith in
+    let first : k ≡ k - 0 / 64 = omega arith in
+    ap (λ (n : ℕ). getD l n 0) at ∙ sym within ∙ ap (λ (n : ℕ). limbBelow n l) first ∙ column-whole l 0 k h (omega arith) (omega arith)
+
+pub alike-start : (x y : List ℕ) → Below (2 ^ 64) x → Below (2 ^ 64) y → readTo (length x - length x) 0 y ≡ readTo (length x - length x) 0 x
+alike-start x y a b = subst (λ (n : ℕ). readTo n 0 y ≡ readTo n 0 x) (none (length x)) (level-start x y a b)
+  where
+    none : (n : ℕ) → 0 ≡ n - n
+    none n = omega arith
+
+module _ (x y : List ℕ) (same : length x ≡ length y) (a : Below (2 ^ 64) x) (b : Below (2 ^ 64) y) (i : ℕ) (some : 0 < i) (left : i ≤ length x) (e : readTo (length x - i) 0 y ≡ readTo (length x - i) 0 x) (u v : ℕ) (f : u ≡ getD x (i - 1) 0) (g : v ≡ getD y (i - 1) 0) where
+  -- the columns above the next limb
+  abbrev passed : ℕ
+  passed = length x - 1 - (i - 1)
+
+  passed-is : length x - i ≡ passed
+  passed-is = omega arith
+
+  passed-alike : readTo passed 0 y ≡ readTo passed 0 x
+  passed-alike = subst (λ (n : ℕ). readTo n 0 y ≡ readTo n 0 x) passed-is e
+
+  next-x : u ≡ columnOf passed 0 x
+  next-x = f ∙ limb-column x a passed i some (omega arith)
+
+  next-y : v ≡ columnOf passed 0 y
+  next-y = g ∙ limb-column y b passed i some (omega arith)
+
+  pub alike-first : v < u → Differs x y (First passed)
+  alike-first l = (omega arith, passed-alike, next-less passed x y passed-alike u v next-x next-y l)
+
+  pub alike-second : u < v → Differs x y (Second passed)
+  alike-second l = (omega arith, sym passed-alike, next-less passed y x (sym passed-alike) v u next-y next-x l)
+
+  pub alike-next : u ≡ v → readTo (length x - (i - 1)) 0 y ≡ readTo (length x - (i - 1)) 0 x
+  alike-next d = subst (λ (n : ℕ). readTo n 0 y ≡ readTo n 0 x) further (next-same passed x y passed-alike u v next-x next-y (omega arith) (omega arith))
+    where
+      further : suc passed ≡ length x - (i - 1)
+      further = omega arith
+
+pub alike-end : (x y : List ℕ) (i : ℕ) → i ≤ 0 → readTo (length x - i) 0 y ≡ readTo (length x - i) 0 x → readTo (length x) 0 y ≡ readTo (length x) 0 x
+alike-end x y i h e = subst (λ (n : ℕ). readTo n 0 y ≡ readTo n 0 x) (all (length x)) e
+  where
+    all : (n : ℕ) → n - i ≡ n
+    all n = omega arith
 
 -- ---- where a walk begins
 

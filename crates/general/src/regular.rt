@@ -89,10 +89,34 @@ fn longer(a: u64, b: u64) -> u64
     if a < b { b } else { a }
 }
 
+// The first column in which two operands of one exponent and of as many limbs differ: no end is looked for on the way.
+fn first_difference_level(x: Number, xl: &[u64], y: Number, yl: &[u64]) -> Differ
+    requires { ⌜ length (now xl) ≡ length (now yl) ⌝ }
+    ensures { λ r. ⌜ Differs (now (xl .entry)) (now (yl .entry)) r ⌝ }
+{
+    let mut i = xl.len();
+    while 0 < i {
+        i -= 1;
+        let u = checks::fetch(xl, x.precision, i);
+        let v = checks::fetch(yl, y.precision, i);
+        if u != v {
+            let k = (xl.len() - 1 - i) as u64;
+            if u < v {
+                return Differ::Second(k);
+            }
+            return Differ::First(k);
+        }
+    }
+    Differ::Never(xl.len() as u64)
+}
+
 // The first column in which two operands of one exponent differ.
 fn first_difference(x: Number, xl: &[u64], y: Number, yl: &[u64]) -> Differ
     ensures { λ r. ⌜ Differs (now (xl .entry)) (now (yl .entry)) r ⌝ }
 {
+    if xl.len() == yl.len() {
+        return first_difference_level(x, xl, y, yl);
+    }
     let n = longer(xl.len() as u64, yl.len() as u64);
     let mut k: u64 = 0;
     while k < n {
