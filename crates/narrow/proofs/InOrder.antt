@@ -1,11 +1,12 @@
 -- A look at two operands: they are in order by their exponents, and what is told of them in order is told of them in their own. Assumes nothing.
 use mathlib.Core.Path.{_≡_, refl, sym, ap, _∙_, subst}
 use mathlib.Core.Logic.{inl, inr}
-use mathlib.Core.Bool.{Bool, true, false, cond, _&&_, _||_, Bool·beq, true≢false}
+use mathlib.Core.Bool.{Bool, true, false, not, cond, _&&_, _||_, Bool·beq, true≢false}
 use mathlib.Core.List.{List, [], _∷_}
 use Prim.Native.Nat.{ℕ, _+_, _-_, _*_, _/_, _≤_, _<_, min}
+use native.Mathlib.Nat.{le-of-lt}
 use native.Mathlib.Omega.{arith}
-use borrow.Author.Tests.{lt-ltb, le-ltb, le-leb, lt-leb, ne-eqb}
+use borrow.Author.Tests.{lt-ltb, le-ltb, ltb-true, ltb-false, le-leb, lt-leb, ne-eqb}
 use lib.Dec.{ltb, leb, eqb}
 use mir.Val.{boolByte}
 use Rattle.depth.proofs.Exchange.{top-exchange, deciding-exchange}
@@ -40,6 +41,34 @@ order-told a b u v = elim (le-or-lt b a) [ inl h ↦ ((λ e. equal h e), (λ e. 
   where
     equal : b ≤ a → (ltb a b || (eqb a b && ltb u v)) ≡ true → a ≤ b
     equal h e = elim (le-or-lt a b) [ inl k ↦ k | inr k ↦ absurd (true≢false (sym e ∙ rw (le-ltb a b h, ne-eqb a b (λ i. omega arith)) refl)) ]
+
+-- so is that of exponents alone
+pub exponents-told : (a b : ℕ) → (ltb a b ≡ true → a ≤ b) × (ltb a b ≡ false → b ≤ a)
+exponents-told a b = ((λ e. le-of-lt (ltb-true a b e)), (λ e. ltb-false a b e))
+
+-- ---- the sign of the larger of two operands whose signs are known to be like, or unlike
+
+pub like-told : (a b : Bool) → a ≡ b → true ≡ Bool·beq a b
+like-told true b e = rw (← e) refl
+like-told false b e = rw (← e) refl
+
+pub like-larger : (swapped a b : Bool) → a ≡ b → a ≡ cond swapped b a
+like-larger true a b e = e
+like-larger false a b e = refl
+
+pub unlike-told : (a b : Bool) → (a ≡ b → ⊥) → false ≡ Bool·beq a b
+unlike-told true true h = absurd (h refl)
+unlike-told true false h = refl
+unlike-told false true h = refl
+unlike-told false false h = absurd (h refl)
+
+pub unlike-larger : (swapped a b : Bool) → (a ≡ b → ⊥) → not (Bool·beq a swapped) ≡ cond swapped b a
+unlike-larger true true true h = absurd (h refl)
+unlike-larger true true false h = refl
+unlike-larger true false true h = refl
+unlike-larger true false false h = absurd (h refl)
+unlike-larger false true b h = refl
+unlike-larger false false b h = refl
 
 -- ---- the limbs used of two operands in order, at a depth of one column
 
@@ -140,9 +169,9 @@ module _ (mode p : ℕ) (least : leastPrecision ≤ p) (most : p ≤ 62) (x : Nu
       go true f = rw (te, le, f) (order .0 f)
       go false f = rw (te, le, f) (order .1 f)
 
-  module _ (m n high deep : ℕ) (me : m ≡ cond swapped (y .precision) (x .precision)) (ne : n ≡ cond swapped (x .precision) (y .precision)) (high-is : high ≡ cond swapped v u) (deep-is : deep ≡ cond swapped u v) where
+  module _ (same : Bool) (m n high deep : ℕ) (same-is : same ≡ Bool·beq (x .negative) (y .negative)) (me : m ≡ cond swapped (y .precision) (x .precision)) (ne : n ≡ cond swapped (x .precision) (y .precision)) (high-is : high ≡ cond swapped v u) (deep-is : deep ≡ cond swapped u v) where
     abbrev pub pair : Pair
-    pair = record { same = Bool·beq (x .negative) (y .negative); first = m; second = n; gap = t - l; top = t }
+    pair = record { same = same; first = m; second = n; gap = t - l; top = t }
 
     pub facing : Facing p pair high
     unfolding operandOf
@@ -184,7 +213,11 @@ module _ (mode p : ℕ) (least : leastPrecision ≤ p) (most : p ≤ 62) (x : Nu
         go true f =
             rw (ie, je, f, flag-told (ltb (t - l) 64), te, le, f)
             (looked-turned mode p least (operandOf x xl) (operandOf y yl) rx ry s (s .negative) 1 (cond (ltb (b - a) 64) 1 0)
-            (numbers-looked mode p least y yl x xl gy ry gx rx b a v u be ae (order .0 f) ve ue s (rw (he, me, ne, te, le, high-is, deep-is, f, beq-turned (x .negative) (y .negative)) at says) closed))
+            (numbers-looked mode p least y yl x xl gy ry gx rx b a v u be ae (order .0 f) ve ue s (rw (he, same-is, me, ne, te, le, high-is, deep-is, f, beq-turned (x .negative) (y .negative)) at says) closed))
         go false f =
             rw (ie, je, f, flag-told (ltb (t - l) 64), te, le, f)
-            (numbers-looked mode p least x xl y yl gx rx gy ry a b u v ae be (order .1 f) ue ve s (rw (he, me, ne, te, le, high-is, deep-is, f) at says) closed)
+            (numbers-looked mode p least x xl y yl gx rx gy ry a b u v ae be (order .1 f) ue ve s (rw (he, same-is, me, ne, te, le, high-is, deep-is, f) at says) closed)
+
+-- the sign may be told by another name
+pub looked-named : (o : Mode) (p : ℕ) (x y : Operand) (s : Seen) (m n : Bool) (i j : ℕ) → m ≡ n → Looked o p x y (record { seen = s; negative = m; first = i; second = j }) → Looked o p x y (record { seen = s; negative = n; first = i; second = j })
+looked-named o p x y s m n i j e l = subst (λ (b : Bool). Looked o p x y (record { seen = s; negative = b; first = i; second = j })) e l

@@ -127,6 +127,14 @@ module _ (p : ℕ) (pair : Pair) (u : ℕ) (f : Facing p pair u) where
     sum-pos : 0 < u + low
     sum-pos = omega (arith, f .led)
 
+    -- without a carry, the first digit is still the first operand's
+    pub sum-led : carry ≡ false → 2 ^ 63 ≤ sum
+    sum-led none = go carry none e
+      where
+        go : (c : Bool) → c ≡ false → sum + 2 ^ 64 * bit c ≡ u + low → 2 ^ 63 ≤ sum
+        go true i is = absurd (true≢false i)
+        go false i is = unfold bit in omega (arith, f .led)
+
     sum-inside : (1 ≤ sum % 2 ^ (64 + bit carry - p - 1)) × (sum % 2 ^ (64 + bit carry - p - 1) + 1 < 2 ^ (64 + bit carry - p - 1)) → Inside p (u + low)
     sum-inside t = inside-of p (64 + bit carry) sum (bit carry) (u + low) e (sum-size u low sum carry (f .led) lt e) (long carry) (few carry) t
       where

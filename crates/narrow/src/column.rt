@@ -53,7 +53,7 @@ fn is_fixed(pair: Pair, limb: u64, drop: u64) -> bool
 // The first operand's limb and the second's part of the column together.
 fn sum_column(p: u64, pair: Pair, u: u64, low: u64) -> Column
     requires { ⌜ Facing p pair u × (pair .same ≡ true) ⌝ }
-    ensures { λ r. ⌜ (r .fixed ≡ true → Settles p pair (u + low) r) ⌝ }
+    ensures { λ r. ⌜ (r .guard ≡ 0) × (r .carry ≡ false → 2 ^ 63 ≤ r .limb) × (r .fixed ≡ true → Settles p pair (u + low) r) ⌝ }
 {
     let s = limb::add_carry(u, low, false);
     let drop = 64 + (s.carry as u64) - p;
@@ -93,7 +93,7 @@ fn is_inside(p: u64, limb: u64) -> bool
 // The first operand's limb less the second's part, outside a hole.
 fn difference_column(p: u64, pair: Pair, u: u64, low: u64) -> Column
     requires { ⌜ Facing p pair u × (pair .same ≡ false) × (isHole pair ≡ false) × (low < u) ⌝ }
-    ensures { λ r. ⌜ (r .fixed ≡ true → Settles p pair (u - low) r) ⌝ }
+    ensures { λ r. ⌜ (r .carry ≡ false) × (r .fixed ≡ true → Settles p pair (u - low) r) ⌝ }
 {
     let d = u - low;
     Column {
@@ -132,20 +132,36 @@ fn unsettled() -> Column
     }
 }
 
-// The first column, where it fixes the answer; of unlike signs the first operand is then seen to be the larger.
-pub fn column_of(p: u64, pair: Pair, u: u64, v: u64) -> Column
-    requires { ⌜ Facing p pair u ⌝ }
-    ensures { λ r. ⌜ (r .fixed ≡ true → Found p pair u v r) ⌝ }
+// The first column of unlike signs, where it fixes the answer; the first operand is then seen to be the larger.
+pub fn difference_of(p: u64, pair: Pair, u: u64, v: u64) -> Column
+    requires { ⌜ Facing p pair u × (pair .same ≡ false) ⌝ }
+    ensures { λ r. ⌜ (r .fixed ≡ true → Found p pair u v r × (r .carry ≡ false)) ⌝ }
 {
-    let low = part(v, pair.gap);
-    if pair.same {
-        return sum_column(p, pair, u, low);
-    }
     if is_hole(pair) {
         return lessened(u);
     }
+    let low = part(v, pair.gap);
     if u <= low {
         return unsettled();
     }
     difference_column(p, pair, u, low)
+}
+
+// The first column of one sign, where it fixes the answer.
+pub fn sum_of(p: u64, pair: Pair, u: u64, v: u64) -> Column
+    requires { ⌜ Facing p pair u × (pair .same ≡ true) ⌝ }
+    ensures { λ r. ⌜ (r .fixed ≡ true → Found p pair u v r × (r .guard ≡ 0) × (r .carry ≡ false → 2 ^ 63 ≤ r .limb)) ⌝ }
+{
+    sum_column(p, pair, u, part(v, pair.gap))
+}
+
+// The first column, where it fixes the answer.
+pub fn column_of(p: u64, pair: Pair, u: u64, v: u64) -> Column
+    requires { ⌜ Facing p pair u ⌝ }
+    ensures { λ r. ⌜ (r .fixed ≡ true → Found p pair u v r) ⌝ }
+{
+    if pair.same {
+        return sum_of(p, pair, u, v);
+    }
+    difference_of(p, pair, u, v)
 }

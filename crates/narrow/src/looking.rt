@@ -23,7 +23,7 @@ pub struct Sight {
 }
 
 // Whether the second of two operands is larger, as far as exponents and top limbs tell.
-fn is_second_larger(a: u64, b: u64, u: u64, v: u64) -> bool
+pub fn is_second_larger(a: u64, b: u64, u: u64, v: u64) -> bool
     ensures { λ r. ⌜ (r ≡ true → a ≤ b) × (r ≡ false → b ≤ a) ⌝ }
 {
     (a < b) | ((a == b) & (u < v))

@@ -63,7 +63,7 @@ fn is_exact(p: u64, pair: Pair) -> bool
 }
 
 // The exact difference of two operands in order: a zero, or what is only brought to the top of the limb, whatever the mode.
-fn see_exact(mode: u8, negative: bool, p: u64, pair: Pair, u: u64, v: u64) -> Seen
+pub fn see_exact(mode: u8, negative: bool, p: u64, pair: Pair, u: u64, v: u64) -> Seen
     requires { ⌜ Facing p pair u × AllKept p pair ⌝ }
     ensures { λ r. ⌜ (r .open ≡ false → (x y : Operand) → Held x y pair u v → negative ≡ x .negative → Told (modeOf mode) p x y (r .negative) (r .limb) (r .placed)) ⌝ }
 {

@@ -1,4 +1,5 @@
 -- `narrow::column::difference_column`: all is read, or the rest lies inside a half. Assumes nothing.
+use mathlib.Core.Path.{refl}
 use native.Mathlib.Omega.{arith}
 use Rattle.narrow.proofs.Settled.{sums-fit, difference-settles}
 use borrow.Author.Needs.{needs}
@@ -21,7 +22,7 @@ returns : tie.Need-returns
 returns c =
     let b = c .before .before .before in
     let a = b .args in
-    λ e. difference-settles (a .p) (a .pair) (a .u) (b .pre .0) (b .pre .1) (b .pre .2) _ _ _ _ (c .before .before .is-whole .ensures) (c .has-more .ensures) (omega (arith, b .pre .3)) (c .before .is-inside .ensures) e
+    (refl, λ e. difference-settles (a .p) (a .pair) (a .u) (b .pre .0) (b .pre .1) (b .pre .2) _ _ _ _ (c .before .before .is-whole .ensures) (c .has-more .ensures) (omega (arith, b .pre .3)) (c .before .is-inside .ensures) e)
 
 pub difference-column-spec : {M : Type 1} → statement M
 difference-column-spec =

@@ -1,9 +1,10 @@
 -- `narrow::column::sum_column`: all is read, or the second operand begins below a column that has all of the first, or the rest lies inside a half. Assumes nothing.
+use mathlib.Core.Path.{refl}
 use Prim.Native.Nat.{_^_, _<_}
 use native.Mathlib.Omega.{arith}
 use Rattle.limb.proofs.Carry.{byte-le}
 use Rattle.numbers.proofs.Limits.{two-digits}
-use Rattle.narrow.proofs.Settled.{sums-fit, sum-settles}
+use Rattle.narrow.proofs.Settled.{sums-fit, sum-led, sum-settles}
 use borrow.Author.Needs.{needs}
 use Rattle.narrow.proofs.column.sum_column.Statement.{statement}
 use Rattle.narrow.proofs.column.sum_column.Tie as tie
@@ -32,7 +33,7 @@ returns c =
     let a = b .args in
     let s = c .before .before .before .add-carry in
     let lt : s .result .sum < 2 ^ 64 = search needs in
-    λ e. sum-settles (a .p) (a .pair) (a .u) (b .pre .0) (b .pre .1) (a .low) (s .result .sum) (s .result .carry) (s .ensures) lt _ (c .before .is-fixed .ensures e)
+    (refl, sum-led (a .p) (a .pair) (a .u) (b .pre .0) (b .pre .1) (a .low) (s .result .sum) (s .result .carry) (s .ensures) lt, λ e. sum-settles (a .p) (a .pair) (a .u) (b .pre .0) (b .pre .1) (a .low) (s .result .sum) (s .result .carry) (s .ensures) lt _ (c .before .is-fixed .ensures e))
 
 pub sum-column-spec : {M : Type 1} → statement M
 sum-column-spec =

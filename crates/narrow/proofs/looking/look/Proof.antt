@@ -81,7 +81,7 @@ see-requires c κs =
     let a = b .args in
     let first = rw (toZ-ofZ (record { sfits = c .before .before .before .before .before .before .before .before .before .before .before .before .before .struct-told .given .1 .1 .1 .0 .1 })) at (c .before .before .before .before .before .before .before .before .before .before .before .before .counted-exponent .ensures) in
     let second = rw (toZ-ofZ (record { sfits = c .before .before .before .before .before .before .before .before .before .before .before .struct-told2 .given .1 .1 .1 .0 .1 })) at (c .before .before .before .before .before .before .before .before .before .before .counted-exponent2 .ensures) in
-    facing (a .mode) (a .p) (b .pre .4) (b .pre .5) (a .x) (a .xl .now) (a .y) (a .yl .now) (b .pre .0) (b .pre .1) (b .pre .2) (b .pre .3) _ _ (topLimb (a .xl .now)) (topLimb (a .yl .now)) first second refl refl _ (c .before .before .before .before .before .before .before .before .before .is-second-larger .ensures) _ _ (c .before .before .before .before .before .before .before .either .ensures) (c .before .before .before .before .before .before .either2 .ensures) _ _ _ _ (c .before .before .before .either3 .ensures) (c .before .before .either4 .ensures) (c .before .either5 .ensures) (c .either6 .ensures)
+    facing (a .mode) (a .p) (b .pre .4) (b .pre .5) (a .x) (a .xl .now) (a .y) (a .yl .now) (b .pre .0) (b .pre .1) (b .pre .2) (b .pre .3) _ _ (topLimb (a .xl .now)) (topLimb (a .yl .now)) first second refl refl _ (c .before .before .before .before .before .before .before .before .before .is-second-larger .ensures) _ _ (c .before .before .before .before .before .before .before .either .ensures) (c .before .before .before .before .before .before .either2 .ensures) _ _ _ _ _ refl (c .before .before .before .either3 .ensures) (c .before .before .either4 .ensures) (c .before .either5 .ensures) (c .either6 .ensures)
 
 cast-lower : tie.Need-cast-lower
 cast-lower c = search needs
@@ -99,7 +99,7 @@ returns c =
     let a = b .args in
     let first = rw (toZ-ofZ (record { sfits = c .before .before .before .before .before .before .before .before .before .before .before .before .before .before .before .before .struct-told .given .1 .1 .1 .0 .1 })) at (c .before .before .before .before .before .before .before .before .before .before .before .before .before .before .before .counted-exponent .ensures) in
     let second = rw (toZ-ofZ (record { sfits = c .before .before .before .before .before .before .before .before .before .before .before .before .before .before .struct-told2 .given .1 .1 .1 .0 .1 })) at (c .before .before .before .before .before .before .before .before .before .before .before .before .before .counted-exponent2 .ensures) in
-    looked (a .mode) (a .p) (b .pre .4) (b .pre .5) (a .x) (a .xl .now) (a .y) (a .yl .now) (b .pre .0) (b .pre .1) (b .pre .2) (b .pre .3) _ _ (topLimb (a .xl .now)) (topLimb (a .yl .now)) first second refl refl _ (c .before .before .before .before .before .before .before .before .before .before .before .before .is-second-larger .ensures) _ _ (c .before .before .before .before .before .before .before .before .before .before .either .ensures) (c .before .before .before .before .before .before .before .before .before .either2 .ensures) _ _ _ _ (c .before .before .before .before .before .before .either3 .ensures) (c .before .before .before .before .before .either4 .ensures) (c .before .before .before .before .either5 .ensures) (c .before .before .before .either6 .ensures) _ _ _ _ (c .before .before .before .before .before .before .before .before .before .before .before .either-sign .ensures) (c .before .before .see .ensures) (c .before .either7 .ensures) (c .either8 .ensures)
+    looked (a .mode) (a .p) (b .pre .4) (b .pre .5) (a .x) (a .xl .now) (a .y) (a .yl .now) (b .pre .0) (b .pre .1) (b .pre .2) (b .pre .3) _ _ (topLimb (a .xl .now)) (topLimb (a .yl .now)) first second refl refl _ (c .before .before .before .before .before .before .before .before .before .before .before .before .is-second-larger .ensures) _ _ (c .before .before .before .before .before .before .before .before .before .before .either .ensures) (c .before .before .before .before .before .before .before .before .before .either2 .ensures) _ _ _ _ _ refl (c .before .before .before .before .before .before .either3 .ensures) (c .before .before .before .before .before .either4 .ensures) (c .before .before .before .before .either5 .ensures) (c .before .before .before .either6 .ensures) _ _ _ _ (c .before .before .before .before .before .before .before .before .before .before .before .either-sign .ensures) (c .before .before .see .ensures) (c .before .either7 .ensures) (c .either8 .ensures)
 
 pub look-spec : {M : Type 1} → statement M
 look-spec =
