@@ -4,10 +4,11 @@ use checks::Number;
 use checks::Refusal;
 ghost use mathlib.Core.Path.{_≡_};
 ghost use mathlib.Core.Bool.{true, false, _&&_};
-ghost use Prim.Native.Nat.{_<_};
+ghost use mathlib.Core.List.{[]};
+ghost use Prim.Native.Nat.{_≤_, _<_};
 ghost use lib.ListN.{length};
-ghost use Rattle.checks.specs.Number.{operandOf};
-ghost use Rattle.checks.specs.Check.{accepted, modeHolds, topBitHolds, spareBitsHold, pairRefusal, singleRefusal, convertedRefusal, aloneRefusal};
+ghost use Rattle.checks.specs.Number.{isZeroKind, operandOf};
+ghost use Rattle.checks.specs.Check.{accepted, modeHolds, exponentHolds, topBitHolds, spareBitsHold, pairRefusal, singleRefusal, convertedRefusal, aloneRefusal};
 ghost use Rattle.checks.specs.Passes.{TargetPasses, Passes};
 ghost use Rattle.admission.specs.Sizes.{SizesPass};
 
@@ -67,6 +68,43 @@ pub fn passes(x: Number, l: &[u64]) -> bool
         return false;
     }
     value_passes(x, l)
+}
+
+// Whether a number is regular and passes test 4.
+fn is_ranged(x: Number) -> bool
+    ensures { λ r. ⌜ (r ≡ true → (isZeroKind (x .kind) ≡ false) × (exponentHolds (operandOf x []) ≡ true)) ⌝ }
+{
+    let e = checks::counted_exponent(x.exponent);
+    (checks::LEAST_EXPONENT <= e) & (e <= checks::MOST_EXPONENT) & !checks::is_zero(x)
+}
+
+// Whether an operand passes tests 2 to 5 and is regular. Between two tests of fields a limb is read, so that they stay two.
+pub fn regular_passes(x: Number, l: &[u64]) -> bool
+    ensures { λ r. ⌜ (r ≡ true → Passes (operandOf x (now (l .entry))) × (isZeroKind (x .kind) ≡ false)) ⌝ }
+{
+    if !target_passes(x.precision, l.len()) {
+        return false;
+    }
+    if l[l.len() - 1] < checks::FIRST_DIGIT {
+        return false;
+    }
+    if !is_ranged(x) {
+        return false;
+    }
+    checks::low_holds(x.precision, l[0])
+}
+
+// Whether a mode passes, and a target passes tests 2 and 3 and is of one limb with two digits to spare.
+pub fn narrow_passes(mode: u8, p: u64, n: usize) -> bool
+    ensures { λ r. ⌜ (r ≡ true → (modeHolds mode ≡ true) × TargetPasses p n × (p ≤ 62)) ⌝ }
+{
+    if checks::MOST_MODE < mode {
+        return false;
+    }
+    if (p < checks::LEAST_PRECISION) | (62 < p) {
+        return false;
+    }
+    n == 1
 }
 
 // Whether a mode and an operand pass.

@@ -5,6 +5,7 @@ pub use report::Sum;
 pub use report::answered;
 pub use report::exchanged;
 pub use report::refused;
+pub use report::retold;
 pub use report::used;
 pub use report::zero;
 pub use report::zero_sign;
