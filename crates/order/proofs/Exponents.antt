@@ -34,12 +34,15 @@ module _ (x y : ℤ) (f : SFits w32 x) (g : SFits w32 y) where
   same-counted : counted x ≡ counted y → x ≡ y
   same-counted e = sym (exponent-of-counted x f) ∙ ap exponentOf e ∙ exponent-of-counted y g
 
+  pub read-same : ofZ w32 x ≡ ofZ w32 y → x ≡ y
+  read-same e = sym (toZ-ofZ f) ∙ ap (toZ w32) e ∙ toZ-ofZ g
+
   pub counted-same : ofZ w32 x ≡ ofZ w32 y → counted x ≡ counted y
-  counted-same e = ap counted (sym (toZ-ofZ f) ∙ ap (toZ w32) e ∙ toZ-ofZ g)
+  counted-same e = ap counted (read-same e)
 
   pub counted-less : ltZ (toZ w32 (ofZ w32 x)) (toZ w32 (ofZ w32 y)) ≡ true → counted x < counted y
   counted-less e = lower x y f (rw (toZ-ofZ f, toZ-ofZ g) at e)
 
-  pub counted-more : (ofZ w32 x ≡ ofZ w32 y → ⊥) → ltZ (toZ w32 (ofZ w32 x)) (toZ w32 (ofZ w32 y)) ≡ false → counted y < counted x
+  pub counted-more : (x ≡ y → ⊥) → ltZ (toZ w32 (ofZ w32 x)) (toZ w32 (ofZ w32 y)) ≡ false → counted y < counted x
   counted-more d e =
-      lt-of-not-le (λ h. d (ap (ofZ w32) (same-counted (le-antisymm h (not-lower x y (rw (toZ-ofZ f, toZ-ofZ g) at e))))))
+      lt-of-not-le (λ h. d (same-counted (le-antisymm h (not-lower x y (rw (toZ-ofZ f, toZ-ofZ g) at e)))))

@@ -3,8 +3,8 @@ use checks::Number;
 use checks::Refusal;
 ghost use mathlib.Core.Path.{_≡_};
 ghost use mathlib.Core.Bool.{true, cond, _||_};
-ghost use mathlib.Core.List.{[]};
-ghost use Prim.Native.Nat.{_+_, _≤_};
+ghost use mathlib.Core.List.{List, []};
+ghost use Prim.Native.Nat.{ℕ, _+_, _≤_};
 ghost use lib.ListN.{length};
 ghost use Rattle.checks.specs.Number.{isZeroKind, operandOf};
 ghost use Rattle.checks.specs.Passes.{Passes};
@@ -111,15 +111,31 @@ fn turned_if(turn: bool, order: Order) -> Order
     if turn { turned(order) } else { order }
 }
 
+// Two regular numbers of one sign with different exponents: these decide, and a negative sign turns what they say.
+pub fn order_exponents(x: Number, y: Number) -> Order
+    requires { ⌜ (x .exponent ≡ y .exponent → ⊥) ⌝ }
+    ensures { λ r. ⌜ ((xl yl : List ℕ) → r ≡ caseOf (reversedIf (x .negative) (regularOrder (operandOf x xl) (operandOf y yl)))) ⌝ }
+{
+    if (x.exponent < y.exponent) != x.negative {
+        return Order::Less;
+    }
+    Order::Greater
+}
+
+// Two regular numbers of one sign, one exponent and as many limbs: these decide.
+pub fn order_level(x: Number, xl: &[u64], y: Number, yl: &[u64]) -> Order
+    requires { ⌜ (x .exponent ≡ y .exponent) × (length (now xl) ≡ length (now yl)) ⌝ }
+    ensures { λ r. ⌜ r ≡ caseOf (reversedIf (x .negative) (regularOrder (operandOf x (now (xl .entry))) (operandOf y (now (yl .entry))))) ⌝ }
+{
+    turned_if(x.negative, order_alike(xl, x.precision, yl, y.precision))
+}
+
 // Two regular numbers of one sign: the exponents decide, else the limbs, and a negative sign turns what they say.
 fn order_regular(x: Number, xl: &[u64], y: Number, yl: &[u64]) -> Order
     ensures { λ r. ⌜ r ≡ caseOf (reversedIf (x .negative) (regularOrder (operandOf x (now (xl .entry))) (operandOf y (now (yl .entry))))) ⌝ }
 {
     if x.exponent != y.exponent {
-        if (x.exponent < y.exponent) != x.negative {
-            return Order::Less;
-        }
-        return Order::Greater;
+        return order_exponents(x, y);
     }
     turned_if(x.negative, order_limbs(xl, x.precision, yl, y.precision))
 }
@@ -151,7 +167,7 @@ fn order_same(x: Number, xl: &[u64], y: Number, yl: &[u64]) -> Order
 }
 
 // Two numbers of different signs: the negative one is below, save that the two zeros are equal.
-fn order_apart(x: Number, y: Number) -> Order
+pub fn order_apart(x: Number, y: Number) -> Order
     ensures { λ r. ⌜ r ≡ caseOf (apartOrder (operandOf x []) (operandOf y [])) ⌝ }
 {
     let xz = checks::is_zero(x);

@@ -41,7 +41,7 @@ headPlain h = record { number = numberPlain (h .number); rule = h .refusal .rule
 writtenPlain : Written → PlainWritten
 writtenPlain w = record { count = w .count; rule = w .refusal .rule; place = w .refusal .place }
 
-zero-back : (z : Bool) → isZeroKind (kindFrom z) ≡ z
+pub zero-back : (z : Bool) → isZeroKind (kindFrom z) ≡ z
 unfolding kindFrom isZeroKind
 zero-back true = refl
 zero-back false = refl

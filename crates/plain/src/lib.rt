@@ -135,7 +135,7 @@ pub fn plain_sum(s: Sum) -> PlainSum
     }
 }
 
-fn order_number(order: Order) -> i8
+pub fn order_number(order: Order) -> i8
     ensures { λ r. ⌜ r ≡ numberOf order ⌝ }
 {
     match order {
