@@ -1,6 +1,6 @@
 -- A sum that its first column fixes: what a look at the operands tells is what is reported. Assumes nothing.
 use mathlib.Core.Path.{_≡_, refl, sym, ap, _∙_}
-use mathlib.Core.Bool.{Bool, true, false, not, _&&_, true≢false}
+use mathlib.Core.Bool.{Bool, true, false, not, _&&_, Bool·beq, true≢false}
 use mathlib.Core.List.{List}
 use Prim.Native.Nat.{ℕ, _≤_}
 use native.Mathlib.Omega.{arith}
@@ -15,6 +15,7 @@ use Rattle.rounding.specs.Sum.{add}
 use Rattle.depth.specs.Depth.{plus, result}
 use Rattle.checks.specs.declared.Number.{Number}
 use Rattle.checks.specs.Number.{operandOf}
+use Rattle.admission.specs.Sizes.{SizesPass}
 use Rattle.place.specs.Placed.{placedOf}
 use Rattle.descent.specs.Ready.{Room}
 use Rattle.reports.specs.Signed.{Signed}
@@ -25,7 +26,7 @@ use Rattle.wide.specs.declared.told.Attempt.{Attempt}
 use Rattle.wide.specs.Attempted.{Attempted}
 use Rattle.deep.proofs.FillingTarget.{one-limb}
 use Rattle.reports.specs.declared.report.Sum.{Sum}
-use Rattle.reports.specs.Summed.{sumOf, Reported}
+use Rattle.reports.specs.Summed.{sumOf, Reported, Summed}
 use Rattle.reports.proofs.Told.{sum-depth}
 
 -- the three tests
@@ -37,6 +38,21 @@ narrow-told p {a} {b} e f h = let t = go (leb p 62) a b h in (leb-true p 62 (t .
     go true false true h = absurd (true≢false (sym h))
     go true true b h = absurd (true≢false (sym h))
     go false a b h = absurd (true≢false (sym h))
+
+-- a test joined to that of the signs
+pub plain-like : (b s t : Bool) → (b && Bool·beq s t) ≡ true → (b ≡ true) × (s ≡ t)
+plain-like true true true h = (refl, refl)
+plain-like true true false h = absurd (true≢false (sym h))
+plain-like true false true h = absurd (true≢false (sym h))
+plain-like true false false h = (refl, refl)
+plain-like false s t h = absurd (true≢false (sym h))
+
+pub plain-unlike : (b s t : Bool) → (b && not (Bool·beq s t)) ≡ true → (b ≡ true) × (s ≡ t → ⊥)
+plain-unlike true true true h = absurd (true≢false (sym h))
+plain-unlike true true false h = (refl, true≢false)
+plain-unlike true false true h = (refl, λ e. true≢false (sym e))
+plain-unlike true false false h = absurd (true≢false (sym h))
+plain-unlike false s t h = absurd (true≢false (sym h))
 
 pub looked-reported : (o : Mode) (p : ℕ) (x y : Operand) (sight : Sight) (entry : List ℕ) {s : Sum} → Room p (length entry) → p ≤ 62 → Looked o p x y sight
     → ((a : Answer) → Signed (sight .negative) a → sight .seen .placed ≡ placedOf a → s ≡ sumOf a p 1 (sight .first) (sight .second))
@@ -76,6 +92,16 @@ module _ {a b x y : Number} (mode p : ℕ) (xl yl : List ℕ) (i : a ≡ x) (j :
 
   pub copies-reported : (exit : List ℕ) (s : Sum) → Reported plus (modeOf mode) p (operandOf a xl) (operandOf b yl) exit s → Reported plus (modeOf mode) p (operandOf x xl) (operandOf y yl) exit s
   copies-reported exit s h = rw (i, j) at h
+
+  pub copies-summed : (entry exit : List ℕ) {r s : Sum} → r ≡ s → Summed plus mode a xl b yl p entry exit s → Summed plus mode x xl y yl p entry exit r
+  copies-summed entry exit e h = rw e (rw (i, j) at h)
+
+module _ {a b x y : Number} (i : a ≡ x) (j : b ≡ y) (m k p n : ℕ) where
+  pub copies-sized : SizesPass (x .precision) m (y .precision) k p n → SizesPass (a .precision) m (b .precision) k p n
+  copies-sized h = rw (i, j) h
+
+  pub copies-unsized : (SizesPass (x .precision) m (y .precision) k p n → ⊥) → SizesPass (a .precision) m (b .precision) k p n → ⊥
+  copies-unsized h = rw (i, j) h
 
 module _ {a x : Number} (xl : List ℕ) (i : a ≡ x) where
   pub copy-formed : WellFormed (operandOf x xl) → WellFormed (operandOf a xl)

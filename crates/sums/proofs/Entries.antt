@@ -42,15 +42,23 @@ zero-alike x g z =
     ap (λ (b : Bool). record { negative = x .negative; isZero = b; precision = x .precision; exponent = x .exponent; limbs = x .limbs }) z
     ∙ ap (λ (e : ℕ). record { negative = x .negative; isZero = true; precision = x .precision; exponent = e; limbs = x .limbs }) (g .zero z)
 
+-- where nothing is refused
+module _ (mode : ℕ) (x : Number) (xl : List ℕ) (y : Number) (yl : List ℕ) (p : ℕ) (entry : List ℕ) (e : pairRefusal mode (operandOf x xl) (operandOf y yl) p (length entry) ≡ accepted) where
+  pub accepted-ready : Below (2 ^ 64) xl → Below (2 ^ 64) yl → (mode ≤ 3) × WellFormed (operandOf x xl) × WellFormed (operandOf y yl) × Room p (length entry)
+  unfolding operandOf
+  accepted-ready wx wy =
+      let g = accepted-well-formed mode (operandOf x xl) (operandOf y yl) p (length entry) wx wy e in
+      (g .mode-small, g .first, g .second, record { least = g .target .least; most = g .target .most; count = g .target .count })
+
+  pub accepted-reported : {f : Operation} {exit : List ℕ} {s : Sum} → Reported f (modeOf mode) p (operandOf x xl) (operandOf y yl) exit s → Summed f mode x xl y yl p entry exit s
+  accepted-reported d = record { refused = λ n. absurd (n e); reported = λ k. d }
+
 module _ (mode : ℕ) (x : Number) (xl : List ℕ) (y : Number) (yl : List ℕ) (p : ℕ) (entry : List ℕ) (r : Refusal) (e : r ≡ pairRefusal mode (operandOf x xl) (operandOf y yl) p (length entry)) where
   passed : r .rule ≡ 0 → pairRefusal mode (operandOf x xl) (operandOf y yl) p (length entry) ≡ accepted
   passed h = pair-unrefused mode (operandOf x xl) (operandOf y yl) p (length entry) (rw e at h)
 
   pub pair-ready : r .rule ≡ 0 → Below (2 ^ 64) xl → Below (2 ^ 64) yl → (mode ≤ 3) × WellFormed (operandOf x xl) × WellFormed (operandOf y yl) × Room p (length entry)
-  unfolding operandOf
-  pair-ready h wx wy =
-      let g = accepted-well-formed mode (operandOf x xl) (operandOf y yl) p (length entry) wx wy (passed h) in
-      (g .mode-small, g .first, g .second, record { least = g .target .least; most = g .target .most; count = g .target .count })
+  pair-ready h wx wy = accepted-ready mode x xl y yl p entry (passed h) wx wy
 
   pub pair-refused : {f : Operation} {s : Sum} → (r .rule ≡ 0 → ⊥) → s ≡ refusedSum r 0 0 0 → Summed f mode x xl y yl p entry entry s
   unfolding accepted
@@ -66,7 +74,7 @@ module _ (mode : ℕ) (x : Number) (xl : List ℕ) (y : Number) (yl : List ℕ) 
   sizes-refused n a = pair-refused (λ h. n (accepted-sized mode (operandOf x xl) (operandOf y yl) p (length entry) (passed h))) a
 
   pub pair-reported : {f : Operation} {exit : List ℕ} {s : Sum} → r .rule ≡ 0 → Reported f (modeOf mode) p (operandOf x xl) (operandOf y yl) exit s → Summed f mode x xl y yl p entry exit s
-  pair-reported h d = record { refused = λ n. absurd (n (passed h)); reported = λ k. d }
+  pair-reported h d = accepted-reported mode x xl y yl p entry (passed h) d
 
 module _ (mode : ℕ) (x : Number) (xl : List ℕ) (p : ℕ) (entry : List ℕ) (r : Refusal) (e : r ≡ singleRefusal mode (operandOf x xl) p (length entry)) where
   passed-single : r .rule ≡ 0 → singleRefusal mode (operandOf x xl) p (length entry) ≡ accepted

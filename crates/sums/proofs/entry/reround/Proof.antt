@@ -5,7 +5,7 @@ use native.Mathlib.Omega.{arith}
 use borrow.Author.Needs.{needs}
 use borrow.Author.Tests.{not-true}
 use Rattle.deep.proofs.FillingTarget.{one-limb}
-use Rattle.sums.proofs.AtOnce.{looked-reported, copy-formed, copy-kind, copy-doubled, copy-alone}
+use Rattle.sums.proofs.AtOnce.{copy-formed, copy-kind, copy-doubled, copy-alone}
 use Rattle.sums.proofs.Entries.{kind-told, single-ready, single-refused, zero-rerounded, regular-rerounded}
 use Rattle.sums.proofs.entry.reround.Statement.{statement}
 use Rattle.sums.proofs.entry.reround.Tie as tie
@@ -28,24 +28,21 @@ look-alone-requires c κs =
     let t = c .before .is-narrow .ensures (c .if2 .taken) in
     (g .1, kind-told _ _ refl (t .1), g .2 .least, t .0)
 
-slice-write-target : tie.Need-slice-write-target
-slice-write-target c =
-    let g = single-ready _ _ _ _ (c .before .before .before .before .before .before .before .before .before .before .before .before .args .target .now) _ (c .before .before .before .before .before .before .before .before .before .check-single .ensures) (c .before .before .before .before .before .before .before .if1 .left) (λ i. c .before .before .before .before .before .before .before .before .before .before .before .shared-slice-known .given i .fits) in
-    let t = c .before .before .before .before .before .before .is-narrow .ensures (c .before .before .before .before .before .if2 .taken) in
+told-requires : tie.Need-told-requires
+told-requires c κs =
+    let g = single-ready _ _ _ _ (c .before .before .before .before .before .before .before .before .before .before .before .args .target .now) _ (c .before .before .before .before .before .before .before .before .check-single .ensures) (c .before .before .before .before .before .before .if1 .left) (λ i. c .before .before .before .before .before .before .before .before .before .before .shared-slice-known .given i .fits) in
+    let t = c .before .before .before .before .before .is-narrow .ensures (c .before .before .before .before .if2 .taken) in
     omega (arith, one-limb _ _ (g .2) (t .0))
-
-answered-requires : tie.Need-answered-requires
-answered-requires c κs = search needs
 
 same-length : tie.Need-same-length
 same-length c = search needs
 
 returns-2 : tie.Need-returns-2
 returns-2 c =
-    let g = single-ready _ _ _ _ (c .before .before .before .before .before .before .before .before .before .before .before .before .before .args .target .now) _ (c .before .before .before .before .before .before .before .before .before .before .check-single .ensures) (c .before .before .before .before .before .before .before .before .if1 .left) (λ i. c .before .before .before .before .before .before .before .before .before .before .before .before .shared-slice-known .given i .fits) in
-    let t = c .before .before .before .before .before .before .before .is-narrow .ensures (c .before .before .before .before .before .before .if2 .taken) in
-    regular-rerounded _ _ _ _ _ _ (c .before .before .before .before .before .before .before .before .before .before .check-single .ensures) (c .before .before .before .before .before .before .before .before .if1 .left) (λ i. c .before .before .before .before .before .before .before .before .before .before .before .before .shared-slice-known .given i .fits)
-    (λ z h e. looked-reported _ _ _ _ (c .before .before .before .before .before .look-alone .result) (c .before .before .before .before .before .before .before .before .before .before .before .before .before .args .target .now) (g .2) (t .0) (c .before .before .before .before .before .look-alone .ensures (not-true _ (c .before .before .if3 .taken)) z h e) (c .answered .ensures))
+    let g = single-ready _ _ _ _ (c .before .before .before .before .before .before .before .before .before .before .before .before .before .before .args .target .now) _ (c .before .before .before .before .before .before .before .before .before .before .before .check-single .ensures) (c .before .before .before .before .before .before .before .before .before .if1 .left) (λ i. c .before .before .before .before .before .before .before .before .before .before .before .before .before .shared-slice-known .given i .fits) in
+    let t = c .before .before .before .before .before .before .before .before .is-narrow .ensures (c .before .before .before .before .before .before .before .if2 .taken) in
+    regular-rerounded _ _ _ _ _ _ (c .before .before .before .before .before .before .before .before .before .before .before .check-single .ensures) (c .before .before .before .before .before .before .before .before .before .if1 .left) (λ i. c .before .before .before .before .before .before .before .before .before .before .before .before .before .shared-slice-known .given i .fits)
+    (λ z h e. c .before .before .told .ensures .1 _ _ z (g .2) (t .0) (c .before .before .before .before .before .before .look-alone .ensures (not-true _ (c .before .before .before .before .if3 .taken)) z h e))
 
 copied-requires : tie.Need-copied-requires
 copied-requires c κs = search needs
@@ -86,8 +83,7 @@ reround-spec =
     returns
     is-narrow-requires
     look-alone-requires
-    slice-write-target
-    answered-requires
+    told-requires
     same-length
     returns-2
     copied-requires
