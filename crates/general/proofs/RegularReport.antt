@@ -28,9 +28,11 @@ use Rattle.descent.specs.Ready.{Room}
 use Rattle.descent.specs.Course.{Begun, Course, Stopped}
 use Rattle.descent.specs.Finishing.{Ending, Left}
 use Rattle.reports.specs.Signed.{Signed}
+use Rattle.reports.specs.Ranged.{Ranged}
 use Rattle.reports.specs.Counts.{usedOf}
 use Rattle.reports.specs.Summed.{sumOf, Reported}
 use Rattle.reports.proofs.Told.{sum-depth}
+use Rattle.reports.proofs.Ranged.{sum-ranged}
 use Rattle.reports.proofs.Counts.{used-is}
 use Rattle.descent.proofs.Handed.{ordered-pair}
 use Rattle.descent.proofs.RegularEnd.{depth-told, signed-told, ending, not-deep}
@@ -168,15 +170,24 @@ module _ (mode p : ℕ) (x : Number) (xl : List ℕ) (by : Way) (c : ℕ) (walke
   pub single-few : walked .columns ≤ 2 ^ 20
   single-few = columns-few mode p (length entry) room X none 0 (single-course X none g r none-formed none-zero) walked t (single-stopped none none-formed none-zero)
 
-  pub single-reported : {exit : List ℕ} {placed : Placed} {s : Sum} {u : ℕ}
-      → ((v z : Operand) (from : ℕ) → Course v z from → record { same = true; first = x .precision; second = 0; gap = 0; top = c } ≡ pairOf v z → x .negative ≡ v .negative → Stopped (modeOf mode) p v z walked t → Left p (add (modeOf mode) p v z) exit placed)
+  -- what the walk's end leaves
+  abbrev SingleEnds : List ℕ → Placed → Type 0
+  SingleEnds exit placed =
+      (v z : Operand) (from : ℕ) → Course v z from → record { same = true; first = x .precision; second = 0; gap = 0; top = c } ≡ pairOf v z → x .negative ≡ v .negative → Stopped (modeOf mode) p v z walked t → Left p (add (modeOf mode) p v z) exit placed
+
+  single-left : {exit : List ℕ} {placed : Placed} → SingleEnds exit placed → (z : Operand) → WellFormed z → z .isZero ≡ true → Left p (add (modeOf mode) p X z) exit placed
+  unfolding operandOf
+  single-left left z h e = left X z 0 (single-course X z g r h e) (single-pair x xl z c e ce) refl (single-stopped z h e)
+
+  pub single-ranged : {exit : List ℕ} {placed : Placed} → SingleEnds exit placed → Ranged placed
+  single-ranged left = sum-ranged (modeOf mode) p X none _ (single-left left none none-formed none-zero .told)
+
+  pub single-reported : {exit : List ℕ} {placed : Placed} {s : Sum} {u : ℕ} → SingleEnds exit placed
       → u ≡ usedOf (walked .columns) 0 (length xl) → ((a : Answer) → Signed (x .negative) a → placed ≡ placedOf a → s ≡ sumOf a p (walked .columns) u 0)
       → (z : Operand) → WellFormed z → z .isZero ≡ true → Reported plus (modeOf mode) p X z exit s
   unfolding operandOf
   single-reported {exit} {placed} {s} {u} left us told z h e =
-      let k = single-course X z g r h e in
-      let st = single-stopped z h e in
-      reported mode p (length entry) room X z 0 k walked t st u 0 (left X z 0 k (single-pair x xl z c e ce) refl st) told
+      reported mode p (length entry) room X z 0 (single-course X z g r h e) walked t (single-stopped z h e) u 0 (single-left left z h e) told
       (us ∙ used-is X (topExponent X z) (walked .columns) 0 g r (top-single X z r e)) (used-zero z (topExponent X z) (walked .columns) e)
 
 module _ (mode p : ℕ) (x : Number) (xl : List ℕ) (y : Number) (yl : List ℕ) (from : ℕ) (by : Way) (c d : ℕ) (walked : Walked) (entry t : List ℕ)
@@ -193,12 +204,23 @@ module _ (mode p : ℕ) (x : Number) (xl : List ℕ) (y : Number) (yl : List ℕ
   pub ordered-few : walked .columns ≤ 2 ^ 20
   ordered-few = columns-few mode p (length entry) room (operandOf x xl) (operandOf y yl) from course walked t both-stopped
 
-  pub ordered-reported : {exit : List ℕ} {placed : Placed} {s : Sum} {i j : ℕ}
-      → ((v z : Operand) (from : ℕ) → Course v z from → record { same = Bool·beq (x .negative) (y .negative); first = x .precision; second = y .precision; gap = c - d; top = c } ≡ pairOf v z → x .negative ≡ v .negative → Stopped (modeOf mode) p v z walked t → Left p (add (modeOf mode) p v z) exit placed)
+  -- what the walk's end leaves
+  abbrev OrderedEnds : List ℕ → Placed → Type 0
+  OrderedEnds exit placed =
+      (v z : Operand) (from : ℕ) → Course v z from → record { same = Bool·beq (x .negative) (y .negative); first = x .precision; second = y .precision; gap = c - d; top = c } ≡ pairOf v z → x .negative ≡ v .negative → Stopped (modeOf mode) p v z walked t → Left p (add (modeOf mode) p v z) exit placed
+
+  ordered-left : {exit : List ℕ} {placed : Placed} → OrderedEnds exit placed → Left p (add (modeOf mode) p (operandOf x xl) (operandOf y yl)) exit placed
+  unfolding operandOf
+  ordered-left left = left (operandOf x xl) (operandOf y yl) from course (ordered-pair x xl y yl c d ye ce de) refl both-stopped
+
+  pub ordered-ranged : {exit : List ℕ} {placed : Placed} → OrderedEnds exit placed → Ranged placed
+  ordered-ranged left = sum-ranged (modeOf mode) p (operandOf x xl) (operandOf y yl) _ (ordered-left left .told)
+
+  pub ordered-reported : {exit : List ℕ} {placed : Placed} {s : Sum} {i j : ℕ} → OrderedEnds exit placed
       → i ≡ usedOf (walked .columns) 0 (length xl) → j ≡ usedOf (walked .columns) (c - d) (length yl) → ((a : Answer) → Signed (x .negative) a → placed ≡ placedOf a → s ≡ sumOf a p (walked .columns) i j)
       → Reported plus (modeOf mode) p (operandOf x xl) (operandOf y yl) exit s
   unfolding operandOf
   ordered-reported {exit} {placed} {s} {i} {j} left us vs told =
-      reported mode p (length entry) room (operandOf x xl) (operandOf y yl) from course walked t both-stopped i j (left (operandOf x xl) (operandOf y yl) from course (ordered-pair x xl y yl c d ye ce de) refl both-stopped) told
+      reported mode p (length entry) room (operandOf x xl) (operandOf y yl) from course walked t both-stopped i j (ordered-left left) told
       (us ∙ used-is (operandOf x xl) (topExponent (operandOf x xl) (operandOf y yl)) (walked .columns) 0 (course .ordered .first) (course .ordered .regular) (first-gap x xl y yl from c d ye course ce de))
       (vs ∙ used-is (operandOf y yl) (topExponent (operandOf x xl) (operandOf y yl)) (walked .columns) (c - d) (course .ordered .second) ye (second-gap x xl y yl from c d ye course ce de))

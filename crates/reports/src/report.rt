@@ -1,13 +1,16 @@
 // What a sum reports.
 ghost use mathlib.Core.Path.{_≡_};
 ghost use Prim.Native.Nat.{_^_, _≤_};
+ghost use Rattle.numbers.specs.Limits.{leastExponent, mostExponent};
 ghost use Rattle.rounding.specs.Mode.{modeOf};
 ghost use Rattle.rounding.specs.Answer.{Answer, zeroOf};
 ghost use Rattle.rounding.specs.Sum.{zeroSign};
+ghost use Rattle.checks.specs.Number.{exponentOf};
 ghost use Rattle.place.specs.Placed.{placedOf};
 ghost use Rattle.reports.specs.Summed.{refusedSum, sumOf};
 ghost use Rattle.reports.specs.Exchanged.{exchangedSum};
 ghost use Rattle.reports.specs.Signed.{Signed};
+ghost use Rattle.reports.specs.Ranged.{Ranged};
 ghost use Rattle.reports.specs.Counts.{usedOf};
 use checks::Kind;
 use checks::Number;
@@ -109,8 +112,19 @@ pub fn exchanged(s: Sum) -> Sum
     }
 }
 
+// The exponent that is counted as c, of a regular number.
+fn exponent_in(c: u64) -> i32
+    requires { ⌜ (leastExponent ≤ c) × (c ≤ mostExponent) ⌝ }
+    ensures { λ r. ⌜ r ≡ exponentOf c ⌝ }
+{
+    let wide = c as i64;
+    let e = wide - 1099511627776;
+    e as i32
+}
+
 // The answer as it is reported: a refusal, a zero, which has no counted exponent, or a number.
 pub fn answered(placed: Placed, negative: bool, p: u64, depth: u64, first: u64, second: u64) -> Sum
+    requires { ⌜ Ranged placed ⌝ }
     ensures { λ r. ⌜ ((a : Answer) → Signed negative a → placed ≡ placedOf a → r ≡ sumOf a p depth first second) ⌝ }
 {
     if placed.rule != 0 {
@@ -127,7 +141,7 @@ pub fn answered(placed: Placed, negative: bool, p: u64, depth: u64, first: u64, 
         negative: negative,
         kind: Kind::Regular,
         precision: p,
-        exponent: checks::exponent_of(placed.exponent),
+        exponent: exponent_in(placed.exponent),
     };
     let none = Refusal { rule: 0, place: 0 };
     Sum {

@@ -8,7 +8,8 @@ use borrow.Author.Tests.{leb-true}
 use lib.Dec.{leb}
 use lib.ListN.{length, set}
 use Rattle.limb.proofs.Value.{one-written}
-use Rattle.numbers.specs.Operand.{Operand, WellFormed}
+use Rattle.numbers.specs.Operand.{Operand, WellFormed, zeroLike}
+use Rattle.numbers.proofs.Digits.{zero-well-formed}
 use Rattle.rounding.specs.Mode.{Mode, modeOf}
 use Rattle.rounding.specs.Answer.{Answer}
 use Rattle.rounding.specs.Sum.{add}
@@ -19,6 +20,7 @@ use Rattle.admission.specs.Sizes.{SizesPass}
 use Rattle.place.specs.Placed.{placedOf}
 use Rattle.descent.specs.Ready.{Room}
 use Rattle.reports.specs.Signed.{Signed}
+use Rattle.reports.specs.Ranged.{Ranged}
 use Rattle.descent.proofs.RegularEnd.{deep-enough}
 use Rattle.narrow.specs.declared.looking.Sight.{Sight}
 use Rattle.narrow.specs.Looked.{Looked}
@@ -28,6 +30,7 @@ use Rattle.deep.proofs.FillingTarget.{one-limb}
 use Rattle.reports.specs.declared.report.Sum.{Sum}
 use Rattle.reports.specs.Summed.{sumOf, Reported, Summed}
 use Rattle.reports.proofs.Told.{sum-depth}
+use Rattle.reports.proofs.Ranged.{sum-ranged}
 
 -- the three tests
 pub narrow-told : (p : ℕ) {a b u v : Bool} → a ≡ u → b ≡ v → ((leb p 62 && not a) && not b) ≡ true → (p ≤ 62) × (u ≡ false) × (v ≡ false)
@@ -54,6 +57,15 @@ plain-unlike true false true h = (refl, λ e. true≢false (sym e))
 plain-unlike true false false h = absurd (true≢false (sym h))
 plain-unlike false s t h = absurd (true≢false (sym h))
 
+-- what a look tells has an exponent in range
+pub looked-ranged : (o : Mode) (p : ℕ) (x y : Operand) (sight : Sight) → Looked o p x y sight → Ranged (sight .seen .placed)
+looked-ranged o p x y sight l = sum-ranged o p x y (sight .seen .placed) (l .left .told)
+
+-- and of a number beside any zero
+pub alone-ranged : (o : Mode) (p : ℕ) (x : Operand) (sight : Sight) → WellFormed x → ((z : Operand) → WellFormed z → z .isZero ≡ true → Looked o p x z sight) → Ranged (sight .seen .placed)
+unfolding zeroLike
+alone-ranged o p x sight g l = looked-ranged o p x (zeroLike x) sight (l (zeroLike x) (zero-well-formed x g) refl)
+
 pub looked-reported : (o : Mode) (p : ℕ) (x y : Operand) (sight : Sight) (entry : List ℕ) {s : Sum} → Room p (length entry) → p ≤ 62 → Looked o p x y sight
     → ((a : Answer) → Signed (sight .negative) a → sight .seen .placed ≡ placedOf a → s ≡ sumOf a p 1 (sight .first) (sight .second))
     → Reported plus o p x y (set entry 0 (sight .seen .limb)) s
@@ -69,6 +81,9 @@ looked-reported o p x y sight entry {s} room h l told =
     }
 
 -- ---- what is read at once into the target
+
+pub attempted-ranged : (o : Mode) (p : ℕ) (x y : Operand) (w : Attempt) (exit : List ℕ) → Attempted o p x y exit (w .negative) (w .placed) (w .depth) (w .first) (w .second) → Ranged (w .placed)
+attempted-ranged o p x y w exit l = sum-ranged o p x y (w .placed) (l .left .told)
 
 pub attempted-reported : (o : Mode) (p : ℕ) (x y : Operand) (w : Attempt) (exit : List ℕ) {s : Sum} → Attempted o p x y exit (w .negative) (w .placed) (w .depth) (w .first) (w .second)
     → ((a : Answer) → Signed (w .negative) a → w .placed ≡ placedOf a → s ≡ sumOf a p (w .depth) (w .first) (w .second))

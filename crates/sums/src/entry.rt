@@ -13,6 +13,7 @@ ghost use Rattle.checks.specs.Check.{accepted, pairRefusal};
 ghost use Rattle.admission.specs.Sizes.{SizesPass};
 ghost use Rattle.place.specs.Placed.{placedOf};
 ghost use Rattle.reports.specs.Signed.{Signed};
+ghost use Rattle.reports.specs.Ranged.{Ranged};
 ghost use Rattle.reports.specs.Summed.{sumOf, Reported, Summed, Rerounded};
 ghost use Rattle.descent.specs.Ready.{Room};
 ghost use Rattle.narrow.specs.Looked.{Looked};
@@ -56,6 +57,7 @@ fn is_narrow(p: u64, x: Number, y: Number) -> bool
 
 // What an attempt tells, as it is reported.
 fn reported(told: Attempt, p: u64) -> Sum
+    requires { ⌜ Ranged (told .placed) ⌝ }
     ensures { λ r. ⌜ ((a : Answer) → Signed (told .negative) a → told .placed ≡ placedOf a → r ≡ sumOf a p (told .depth) (told .first) (told .second)) ⌝ }
 {
     let placed = told.placed;
@@ -71,7 +73,7 @@ fn reported(told: Attempt, p: u64) -> Sum
 
 // What a look at the first column tells, as it is reported.
 fn told(sight: Sight, p: u64, target: &mut [u64]) -> Sum
-    requires { ⌜ 0 < length (now target) ⌝ }
+    requires { ⌜ (0 < length (now target)) × Ranged (sight .seen .placed) ⌝ }
     ensures { λ r. ⌜ (length (now (target .exit)) ≡ length (now (target .entry))) × ((o : Mode) (x y : Operand) → Room p (length (now (target .entry))) → p ≤ 62 → Looked o p x y sight → Reported plus o p x y (now (target .exit)) r) ⌝ }
 {
     let seen = sight.seen;

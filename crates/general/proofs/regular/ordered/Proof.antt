@@ -1,6 +1,6 @@
 -- `regular::ordered`: the walk stops where the answer is fixed, and its end is reported with the limbs that its columns reach. Assumes nothing.
 use mir.Facts.{toZ-ofZ}
-use Rattle.general.proofs.RegularReport.{gap-some, ordered-begun, ordered-ending, ordered-few, ordered-reported}
+use Rattle.general.proofs.RegularReport.{gap-some, ordered-begun, ordered-ending, ordered-few, ordered-ranged, ordered-reported}
 use borrow.Author.Needs.{needs}
 use Rattle.general.proofs.regular.ordered.Statement.{statement}
 use Rattle.general.proofs.regular.ordered.Tie as tie
@@ -58,7 +58,13 @@ used-requires-2 c κs =
     ordered-few (a .mode) (a .p) (a .x) (a .xl .now) (a .y) (a .yl .now) (a .from) _ _ _ (w .result) (a .target .now) _ (b .pre .0) (b .pre .1) (b .pre .2) (c .before .before .before .before .before .before .before .before .before .way-of .ensures) first second (c .before .before .before .before .before .before .target .given) (w .ensures)
 
 answered-requires : tie.Need-answered-requires
-answered-requires c κs = search needs
+answered-requires c κs =
+    let b = c .before .before .before .before .before .before .before .before .before .before .before .before .before .before .before .before .before .before .before in
+    let a = b .args in
+    let w = c .before .before .before .before .before .before .before .before .walk-down in
+    let first = rw (toZ-ofZ (record { sfits = c .before .before .before .before .before .before .before .before .before .before .before .before .before .before .before .struct-told .given .1 .1 .1 .0 .1 })) at (c .before .before .before .before .before .before .before .before .before .before .before .before .before .before .counted-exponent .ensures) in
+    let second = rw (toZ-ofZ (record { sfits = c .before .before .before .before .before .before .before .before .before .before .before .before .before .struct-told2 .given .1 .1 .1 .0 .1 })) at (c .before .before .before .before .before .before .before .before .before .before .before .before .counted-exponent2 .ensures) in
+    ordered-ranged (a .mode) (a .p) (a .x) (a .xl .now) (a .y) (a .yl .now) (a .from) _ _ _ (w .result) (a .target .now) _ (b .pre .0) (b .pre .1) (b .pre .2) (c .before .before .before .before .before .before .before .before .before .before .way-of .ensures) first second (c .before .before .before .before .before .before .before .target .given) (w .ensures) (c .before .before .before .before .finish .ensures)
 
 same-length : tie.Need-same-length
 same-length c = search needs

@@ -1,6 +1,6 @@
 -- `regular::single`: no column of a zero is read, whichever zero it is, so the walk is one and its end is reported. Assumes nothing.
 use mir.Facts.{toZ-ofZ}
-use Rattle.general.proofs.RegularReport.{single-begun, single-ending, single-few, single-reported}
+use Rattle.general.proofs.RegularReport.{single-begun, single-ending, single-few, single-ranged, single-reported}
 use borrow.Author.Needs.{needs}
 use Rattle.general.proofs.regular.single.Statement.{statement}
 use Rattle.general.proofs.regular.single.Tie as tie
@@ -35,7 +35,12 @@ used-requires c κs =
     single-few (a .mode) (a .p) (a .x) (a .xl .now) _ _ (w .result) (a .target .now) _ (b .pre .1) (b .pre .2) (b .pre .3) (c .before .before .before .before .before .before .before .before .way-of .ensures) back (c .before .before .before .before .before .target .given) (w .ensures)
 
 answered-requires : tie.Need-answered-requires
-answered-requires c κs = search needs
+answered-requires c κs =
+    let b = c .before .before .before .before .before .before .before .before .before .before .before .before .before .before in
+    let a = b .args in
+    let w = c .before .before .before .before .before .before .before .walk-down in
+    let back = rw (toZ-ofZ (record { sfits = c .before .before .before .before .before .before .before .before .before .before .before .struct-told .given .1 .1 .1 .0 .1 })) at (c .before .before .before .before .before .before .before .before .before .before .counted-exponent .ensures) in
+    single-ranged (a .mode) (a .p) (a .x) (a .xl .now) _ _ (w .result) (a .target .now) _ (b .pre .1) (b .pre .2) (b .pre .3) (c .before .before .before .before .before .before .before .before .before .way-of .ensures) back (c .before .before .before .before .before .before .target .given) (w .ensures) (c .before .before .before .finish .ensures)
 
 same-length : tie.Need-same-length
 same-length c = search needs

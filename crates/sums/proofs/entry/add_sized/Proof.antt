@@ -10,7 +10,7 @@ use Rattle.numbers.specs.Operand.{WellFormed}
 use Rattle.checks.specs.Number.{operandOf}
 use Rattle.descent.specs.Ready.{Room}
 use Rattle.deep.proofs.FillingTarget.{one-limb}
-use Rattle.sums.proofs.AtOnce.{attempted-reported, copies-ready, copies-reported}
+use Rattle.sums.proofs.AtOnce.{looked-ranged, attempted-ranged, attempted-reported, copies-ready, copies-reported}
 use Rattle.sums.proofs.Entries.{kind-told, pair-ready, pair-refused, pair-reported}
 use Rattle.sums.proofs.entry.add_sized.Statement.{statement}
 use Rattle.sums.proofs.entry.add_sized.Tie as tie
@@ -38,7 +38,8 @@ look-requires c κs =
     (g .1, kind-told _ _ refl (t .1), g .2, kind-told _ _ refl (t .2), g .3 .least, t .0)
 
 told-requires : tie.Need-told-requires
-told-requires c κs = omega (arith, one-limb _ _ (ready (c .before .before .before .before .before .before .before .before .before) .3) (c .before .before .before .before .before .is-narrow .ensures (c .before .before .before .before .if3 .taken) .0))
+told-requires c κs =
+    (omega (arith, one-limb _ _ (ready (c .before .before .before .before .before .before .before .before .before) .3) (c .before .before .before .before .before .is-narrow .ensures (c .before .before .before .before .if3 .taken) .0)), looked-ranged _ _ _ _ _ (c .before .before .before .look .ensures (not-true _ (c .before .if4 .taken))))
 
 same-length : tie.Need-same-length
 same-length c = search needs
@@ -76,7 +77,7 @@ returns-3 c =
     (rw (c .retold .ensures) (copies-reported _ _ _ _ (c .before .before .before .before .before .before .copied .ensures) (c .before .before .before .before .before .copied2 .ensures) _ _ (c .before .before .before .summed .ensures)))
 
 reported-requires : tie.Need-reported-requires
-reported-requires c κs = search needs
+reported-requires c κs = attempted-ranged _ _ _ _ (c .before .before .before .attempt .result) _ (c .before .before .before .attempt .ensures .1 (c .if5 .left))
 
 same-length-3 : tie.Need-same-length-3
 same-length-3 c = search needs

@@ -5,7 +5,7 @@ use native.Mathlib.Omega.{arith}
 use borrow.Author.Needs.{needs}
 use borrow.Author.Tests.{not-true}
 use Rattle.deep.proofs.FillingTarget.{one-limb}
-use Rattle.sums.proofs.AtOnce.{copy-formed, copy-kind, copy-doubled, copy-alone}
+use Rattle.sums.proofs.AtOnce.{alone-ranged, copy-formed, copy-kind, copy-doubled, copy-alone}
 use Rattle.sums.proofs.Entries.{kind-told, single-ready, single-refused, zero-rerounded, regular-rerounded}
 use Rattle.sums.proofs.entry.reround.Statement.{statement}
 use Rattle.sums.proofs.entry.reround.Tie as tie
@@ -32,7 +32,7 @@ told-requires : tie.Need-told-requires
 told-requires c κs =
     let g = single-ready _ _ _ _ (c .before .before .before .before .before .before .before .before .before .before .before .args .target .now) _ (c .before .before .before .before .before .before .before .before .check-single .ensures) (c .before .before .before .before .before .before .if1 .left) (λ i. c .before .before .before .before .before .before .before .before .before .before .shared-slice-known .given i .fits) in
     let t = c .before .before .before .before .before .is-narrow .ensures (c .before .before .before .before .if2 .taken) in
-    omega (arith, one-limb _ _ (g .2) (t .0))
+    (omega (arith, one-limb _ _ (g .2) (t .0)), alone-ranged _ _ _ _ (g .1) (c .before .before .before .look-alone .ensures (not-true _ (c .before .if3 .taken))))
 
 same-length : tie.Need-same-length
 same-length c = search needs

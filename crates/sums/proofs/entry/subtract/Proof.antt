@@ -10,7 +10,7 @@ use Rattle.numbers.specs.Operand.{WellFormed}
 use Rattle.checks.specs.Number.{operandOf}
 use Rattle.descent.specs.Ready.{Room}
 use Rattle.deep.proofs.FillingTarget.{one-limb}
-use Rattle.sums.proofs.AtOnce.{plain-unlike, copies-sized, copies-unsized, copies-summed}
+use Rattle.sums.proofs.AtOnce.{plain-unlike, looked-ranged, copies-sized, copies-unsized, copies-summed}
 use Rattle.sums.proofs.Entries.{kind-told, accepted-ready, accepted-reported}
 use Rattle.sums.proofs.Turned.{summed-turned}
 use Rattle.sums.proofs.entry.subtract.Statement.{statement}
@@ -38,7 +38,9 @@ look-unlike-requires c κs =
     (g .1, kind-told _ _ refl (t .2), g .2, kind-told _ _ refl (t .3), g .3 .least, t .1, h .1)
 
 told-requires : tie.Need-told-requires
-told-requires c κs = let k = c .before .before .before .before in omega (arith, one-limb _ _ (ready k .3) (k .before .before .before .is-plain .ensures (signs k .0) .1))
+told-requires c κs =
+    let k = c .before .before .before .before in
+    (omega (arith, one-limb _ _ (ready k .3) (k .before .before .before .is-plain .ensures (signs k .0) .1)), looked-ranged _ _ _ _ _ (c .before .before .before .look-unlike .ensures (not-true _ (c .before .if2 .taken))))
 
 same-length : tie.Need-same-length
 same-length c = search needs

@@ -9,7 +9,7 @@ slice-write-target : tie.Need-slice-write-target
 slice-write-target c = search needs
 
 answered-requires : tie.Need-answered-requires
-answered-requires c κs = search needs
+answered-requires c κs = c .before .before .before .pre .1
 
 same-length : tie.Need-same-length
 same-length c = search needs
