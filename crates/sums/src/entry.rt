@@ -18,6 +18,7 @@ ghost use Rattle.reports.specs.Summed.{sumOf, Reported, Summed, Rerounded};
 ghost use Rattle.descent.specs.Ready.{Room};
 ghost use Rattle.narrow.specs.Looked.{Looked};
 use checks::Number;
+use checks::copied;
 use narrow::Sight;
 use reports::Sum;
 use wide::Attempt;
@@ -112,15 +113,7 @@ fn add_sized<'a>(
     }
     let attempt = ways::attempt(mode, x, xl, y, yl, p, target);
     if attempt.open {
-        return reports::retold(summed(
-            mode,
-            checks::copied(x),
-            &xl[..],
-            checks::copied(y),
-            &yl[..],
-            p,
-            target,
-        ));
+        return reports::retold(summed(mode, copied(x), &xl[..], copied(y), &yl[..], p, target));
     }
     reported(attempt, p)
 }
@@ -169,21 +162,13 @@ pub fn add<'a>(
         }
     }
     if !admission::sizes_pass(x.precision, xl.len(), y.precision, yl.len(), p, n) {
-        return refuse_sizes(
-            mode,
-            checks::copied(x),
-            &xl[..],
-            checks::copied(y),
-            &yl[..],
-            p,
-            n,
-        );
+        return refuse_sizes(mode, copied(x), &xl[..], copied(y), &yl[..], p, n);
     }
     reports::retold(add_sized(
         mode,
-        checks::copied(x),
+        copied(x),
         &xl[..],
-        checks::copied(y),
+        copied(y),
         &yl[..],
         p,
         target,
@@ -212,21 +197,13 @@ pub fn subtract<'a>(
         }
     }
     if !admission::sizes_pass(x.precision, xl.len(), turned.precision, yl.len(), p, n) {
-        return refuse_sizes(
-            mode,
-            checks::copied(x),
-            &xl[..],
-            checks::copied(turned),
-            &yl[..],
-            p,
-            n,
-        );
+        return refuse_sizes(mode, copied(x), &xl[..], copied(turned), &yl[..], p, n);
     }
     reports::retold(add_sized(
         mode,
-        checks::copied(x),
+        copied(x),
         &xl[..],
-        checks::copied(turned),
+        copied(turned),
         &yl[..],
         p,
         target,
@@ -248,7 +225,7 @@ pub fn reround(mode: u8, x: Number, xl: &[u64], p: u64, target: &mut [u64]) -> S
             return told(sight, p, target);
         }
     }
-    let alike = checks::copied(x);
+    let alike = copied(x);
     if checks::is_zero(alike) {
         return zeros(mode, alike, alike, p, target);
     }
