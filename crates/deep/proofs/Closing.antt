@@ -44,7 +44,7 @@ use Rattle.front.specs.declared.showing.Front.{Front}
 use Rattle.front.specs.Front.{firstOf, ShowsFront}
 use Rattle.wide.specs.declared.filling.Filled.{Filled}
 use Rattle.wide.specs.Filling.{Holding, Rounds}
-use Rattle.deep.specs.Reading.{innerRow, Ends, Stored}
+use Rattle.deep.specs.Reading.{innerRow, Ends, FrontFilled}
 
 -- the answer is fixed by k columns, and it is the first of them, rounded; `more` says whether anything lies below it
 abbrev pub RoundsFirst : Mode → ℕ → Operand → Operand → ℕ → Front → Bool → Type 0
@@ -234,7 +234,7 @@ first-rounds o p P x y pair first second h front is long row s =
 
 -- ---- the first column in the target
 
-module _ (p : ℕ) (front : Front) (more : Bool) (depth : ℕ) (exit : List ℕ) (r : Filled) (s : Stored front more depth exit r) (long : p < size (firstOf front)) where
+module _ (p : ℕ) (front : Front) (more : Bool) (depth : ℕ) (exit : List ℕ) (r : Filled) (s : FrontFilled front more depth exit r) (long : p < size (firstOf front)) where
   pub stored-led : r .carry ≡ false → 0 < getD exit (length exit - 1) 0
   stored-led e = rw (s .limbs) (led p front long (sym (s .carry) ∙ e))
 

@@ -34,7 +34,7 @@ use Rattle.wide.specs.Filling.{Holding, Offered, FillsBy}
 use Rattle.wide.proofs.GuardBelow.{read-held}
 use Rattle.deep.specs.declared.reading.Reading.{Reading}
 use Rattle.deep.specs.Deep.{Inner}
-use Rattle.deep.specs.Reading.{innerRow, ReadOn, Stored}
+use Rattle.deep.specs.Reading.{innerRow, ReadOn, FrontFilled}
 use Rattle.deep.proofs.Opening.{inner-row, inner-near, kept-rest, kept-open}
 use Rattle.deep.proofs.Closing.{RoundsFirst, ends-rounds, first-rounds, none-below, stored-led, stored-rounds}
 
@@ -103,7 +103,7 @@ module _ (o : Mode) (negative : Bool) (p : ℕ) (pair : Pair) (first second : Li
   first-tests = let N : ℕ = firstOf begun in k .tests p N (kept-rest p N 0 N (k .rest) (k .long) (kept-alone N) (k .told 0 N (kept-alone N))) (k .positive)
 
   -- it settles it
-  pub first-fills : begun .tail ≡ Empty → settled ≡ true → (exit : List ℕ) (r : Filled) → Stored begun (not (pair .same)) 1 exit r → FillsBy o negative p pair first second exit r
+  pub first-fills : begun .tail ≡ Empty → settled ≡ true → (exit : List ℕ) (r : Filled) → FrontFilled begun (not (pair .same)) 1 exit r → FillsBy o negative p pair first second exit r
   first-fills empty yields exit r s closed = (
     rw (s .depth-is) near-one,
     stored-led p begun (not (pair .same)) 1 exit r s longer,
@@ -136,7 +136,7 @@ module _ (o : Mode) (negative : Bool) (p : ℕ) (pair : Pair) (first second : Li
     long-enough : p < size (firstOf (reading .front))
     long-enough = read (offered .larger) (offered .other) (offered .holding) .ends fixed .long
 
-    pub last-fills : settled ≡ false → (exit : List ℕ) (r : Filled) → Stored (reading .front) false (reading .columns) exit r → FillsBy o negative p pair first second exit r
+    pub last-fills : settled ≡ false → (exit : List ℕ) (r : Filled) → FrontFilled (reading .front) false (reading .columns) exit r → FillsBy o negative p pair first second exit r
     last-fills unsettled exit r s closed = (
       rw (s .depth-is) near-enough,
       stored-led p (reading .front) false (reading .columns) exit r s long-enough,

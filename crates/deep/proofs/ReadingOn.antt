@@ -29,7 +29,7 @@ use Rattle.bridge.specs.Verdict.{readSum, exact?}
 use Rattle.descent.proofs.JudgingRows.{pair-modest}
 use Rattle.front.specs.declared.showing.Front.{Front}
 use Rattle.front.specs.Front.{firstOf, Kept, ShowsFront, Stepped}
-use Rattle.front.specs.Passing.{Within, PassedBelow}
+use Rattle.front.specs.Passing.{NotPast, PassedBelow}
 use Rattle.wide.specs.Filling.{Holding, Offered}
 use Rattle.wide.proofs.GuardBelow.{read-held, leads-held}
 use Rattle.deep.specs.Deep.{Inner}
@@ -268,7 +268,7 @@ module _ (x y : Operand) (pair : Pair) (first second : List ℕ) (h : Holding x 
             goes-on = goes-on;
           }
 
-      pub read-on : (on : ℕ) → Within 1 stop on → PassedBelow pair odd first second on → KeptTail odd on tail
+      pub read-on : (on : ℕ) → NotPast 1 stop on → PassedBelow pair odd first second on → KeptTail odd on tail
           → a ≡ columnOf on 0 first → b ≡ columnOf on (pair .gap) second → (fixed : Bool) → (fixed ≡ true → Ends p pair next (on + 1)) → (fixed ≡ false → Ends p pair next (on + 1) → ⊥)
           → ReadOn p pair stop x y (record { fixed = fixed; front = next; columns = on + 1 })
       read-on zero within = absurd (omega (arith, within .on))
@@ -276,7 +276,7 @@ module _ (x y : Operand) (pair : Pair) (first second : List ℕ) (h : Holding x 
 
 -- ---- how many columns that is
 
-pub next-few : (pair : Pair) (stop : ℕ) → Inner pair stop → (on : ℕ) → Within 1 stop on → on + 1 ≤ suc stop
+pub next-few : (pair : Pair) (stop : ℕ) → Inner pair stop → (on : ℕ) → NotPast 1 stop on → on + 1 ≤ suc stop
 next-few pair stop inner on within = omega (arith, within .within (inner .some))
 
 module _ (pair : Pair) (first second : List ℕ) (offered : Offered pair first second) (stop : ℕ) (inner : Inner pair stop) (k : ℕ) (few : k ≤ suc stop) where

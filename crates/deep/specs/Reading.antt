@@ -46,7 +46,7 @@ pub record ReadOn (p : ℕ) (pair : Pair) (stop : ℕ) (x y : Operand) (r : Read
   pub goes-on : r .fixed ≡ false → Ends p pair (r .front) (r .columns) → ⊥
 
 -- the first column stands in the target, with what is told of it
-pub record Stored (front : Front) (more : Bool) (depth : ℕ) (exit : List ℕ) (r : Filled) : Type 0 where
+pub record FrontFilled (front : Front) (more : Bool) (depth : ℕ) (exit : List ℕ) (r : Filled) : Type 0 where
   pub limbs : exit ≡ front .limb ∷ []
   pub closed : r .open ≡ false
   pub carry : r .carry ≡ front .carry

@@ -7,7 +7,7 @@ ghost use Rattle.settle.specs.Rows.{Modest};
 ghost use Rattle.descent.specs.Ready.{Room};
 ghost use Rattle.wide.specs.Filling.{Offered, FillsBy};
 ghost use Rattle.deep.specs.Deep.{Deep, Inner};
-ghost use Rattle.deep.specs.Reading.{Stored};
+ghost use Rattle.deep.specs.Reading.{FrontFilled};
 use crate::reading::is_settled;
 use crate::reading::read_on;
 use front::Front;
@@ -31,7 +31,7 @@ fn inner_of(pair: Pair) -> u64
 // The first column in the target, and what is told of it.
 fn filled(front: Front, more: bool, depth: u64, target: &mut [u64]) -> Filled
     requires { ⌜ length (now target) ≡ 1 ⌝ }
-    ensures { λ r. ⌜ Stored front more depth (now (target .exit)) r ⌝ }
+    ensures { λ r. ⌜ FrontFilled front more depth (now (target .exit)) r ⌝ }
 {
     let tail = front.tail;
     target[0] = front.limb;

@@ -11,7 +11,7 @@ use Rattle.columns.specs.Column.{readTo, columnOf}
 use Rattle.columns.proofs.Reading.{read-more, column-lt}
 use Rattle.walk.proofs.Tails.{column-weight}
 use Rattle.settle.specs.declared.rows.Pair.{Pair}
-use Rattle.front.specs.Passing.{Within, PassedZeros, PassedOnes, PassedAlike, PassedBelow}
+use Rattle.front.specs.Passing.{NotPast, PassedZeros, PassedOnes, PassedAlike, PassedBelow}
 
 -- no digit of either is 1: both are 0
 both-zero : (a b : ℕ) → bitOr a b ≡ 0 → a + b ≡ 0
@@ -31,7 +31,7 @@ module _ (B W A C a c : ℕ) where
 
 -- ---- no column passed
 
-pub within-none : (k stop : ℕ) → Within k stop k
+pub within-none : (k stop : ℕ) → NotPast k stop k
 within-none k stop = record { on = omega arith; within = λ h. h }
 
 weight-none : (x k : ℕ) → x ≡ x * 2 ^ (64 * (k - k))
@@ -49,7 +49,7 @@ module _ (gap : ℕ) (first second : List ℕ) (k : ℕ) where
 
 -- ---- column k passed, after those from `from` on
 
-pub within-on : (from stop k : ℕ) → Within from stop k → k < stop → Within from stop (k + 1)
+pub within-on : (from stop k : ℕ) → NotPast from stop k → k < stop → NotPast from stop (k + 1)
 within-on from stop k w more = record { on = omega (arith, w .on); within = λ h. omega arith }
 
 module _ (gap : ℕ) (first second : List ℕ) (from k : ℕ) (on : from ≤ k) where

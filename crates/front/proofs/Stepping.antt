@@ -16,7 +16,7 @@ use Rattle.walk.specs.Change.{Moved}
 use Rattle.walk.specs.Tail.{Unmixed, PassesTail}
 use Rattle.walk.proofs.Tails.{column-weight}
 use Rattle.front.specs.declared.showing.Front.{Front}
-use Rattle.front.specs.Front.{firstOf, ShowsFront, Changed, Appended, Stepped}
+use Rattle.front.specs.Front.{firstOf, ShowsFront, Changed, FrontGrown, Stepped}
 
 abbrev pub frontOf : Bool → ℕ → Tail → Front
 frontOf carry limb tail = record { carry = carry; limb = limb; tail = tail }
@@ -93,7 +93,7 @@ room-above B M m low g q s e l =
     omega arith)
 
 pub column-below : (f r : Front) (low : ℕ) (change up : Change) (next : Tail) → low < 2 ^ 64 → PassesTail change (f .tail) low up next → Changed (f .carry) (f .limb) next up r
-    → Appended f low change r
+    → FrontGrown f low change r
 unfolding firstOf
 column-below f r low change up next small pass change-first t D m s unmixed moved room =
     let a = pass t (s .rest) (firstOf f) m (s .tail) unmixed (subst (λ (x : ℕ). Moved change x m) (s .value) moved) in
@@ -113,19 +113,19 @@ column-below f r low change up next small pass change-first t D m s unmixed move
 
 module _ (f r : Front) (a b low : ℕ) where
   -- room for a column more is room for what stands above it
-  sum-column : (change : Change) → Appended f low change r → (t D m : ℕ) → ShowsFront f t D → Unmixed (f .tail) → Moved change D m → m * 2 ^ 64 + low ≡ D * 2 ^ 64 + a + b
+  sum-column : (change : Change) → FrontGrown f low change r → (t D m : ℕ) → ShowsFront f t D → Unmixed (f .tail) → Moved change D m → m * 2 ^ 64 + low ≡ D * 2 ^ 64 + a + b
       → D * 2 ^ 64 + a + b < 2 * 2 ^ (64 * suc (suc t)) → ShowsFront r (suc t) (D * 2 ^ 64 + a + b)
   sum-column change p t D m s unmixed moved e room =
       let fits : m * 2 ^ 64 + low < 2 * (2 ^ 64 * 2 ^ (64 * suc t)) = rw e (rw (column-weight (suc t)) at room) in
       subst (λ (x : ℕ). ShowsFront r (suc t) x) e (p t D m s unmixed moved (lt-of-mul-lt-mul-left (2 ^ 64) (omega arith)))
 
-  pub sum-rises : low + 2 ^ 64 * 1 ≡ a + b + 0 → Appended f low Rise r → Stepped true f a b r
+  pub sum-rises : low + 2 ^ 64 * 1 ≡ a + b + 0 → FrontGrown f low Rise r → Stepped true f a b r
   sum-rises e p = record {
     sum = λ y t D s unmixed room. sum-column Rise p t D (suc D) s unmixed refl (omega arith) room;
     difference = λ y. absurd (true-false refl y);
   }
 
-  pub sum-stays : low + 2 ^ 64 * 0 ≡ a + b + 0 → Appended f low Stay r → Stepped true f a b r
+  pub sum-stays : low + 2 ^ 64 * 0 ≡ a + b + 0 → FrontGrown f low Stay r → Stepped true f a b r
   sum-stays e p = record {
     sum = λ y t D s unmixed room. sum-column Stay p t D D s unmixed refl (omega arith) room;
     difference = λ y. absurd (true-false refl y);
@@ -133,7 +133,7 @@ module _ (f r : Front) (a b low : ℕ) where
 
   -- ---- of a difference
 
-  pub difference-stays : low + b + 0 ≡ a + 2 ^ 64 * 0 → Appended f low Stay r → Stepped false f a b r
+  pub difference-stays : low + b + 0 ≡ a + 2 ^ 64 * 0 → FrontGrown f low Stay r → Stepped false f a b r
   difference-stays e p = record {
     sum = λ y. absurd (true-false y refl);
     difference = λ y t D s unmixed room h.
@@ -142,7 +142,7 @@ module _ (f r : Front) (a b low : ℕ) where
   }
 
   -- a borrow is met by what stands above, which is not 0
-  pub difference-falls : low < 2 ^ 64 → low + b + 0 ≡ a + 2 ^ 64 * 1 → Appended f low Fall r → Stepped false f a b r
+  pub difference-falls : low < 2 ^ 64 → low + b + 0 ≡ a + 2 ^ 64 * 1 → FrontGrown f low Fall r → Stepped false f a b r
   difference-falls l e p = record {
     sum = λ y. absurd (true-false y refl);
     difference = λ y t D s unmixed room h.

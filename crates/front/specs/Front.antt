@@ -31,8 +31,8 @@ pub record Changed (carry : Bool) (limb : ℕ) (tail : Tail) (change : Change) (
   pub first : (m : ℕ) → Moved change (bit carry * 2 ^ 64 + limb) m → m < 2 * 2 ^ 64 → firstOf r ≡ m
 
 -- D becomes m, and `low` stands below it
-abbrev pub Appended : Front → ℕ → Change → Front → Type 0
-Appended f low change r =
+abbrev pub FrontGrown : Front → ℕ → Change → Front → Type 0
+FrontGrown f low change r =
     (t D m : ℕ) → ShowsFront f t D → Unmixed (f .tail) → Moved change D m → m < 2 * 2 ^ (64 * suc t) → ShowsFront r (suc t) (m * 2 ^ 64 + low)
 
 -- a column a of one operand and b of the other: added, or b taken off a

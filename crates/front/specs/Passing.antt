@@ -7,7 +7,7 @@ use Rattle.columns.specs.Column.{readTo}
 use Rattle.settle.specs.declared.rows.Pair.{Pair}
 
 -- from k on, and not past the stop
-pub record Within (k stop r : ℕ) : Type 0 where
+pub record NotPast (k stop r : ℕ) : Type 0 where
   pub on : k ≤ r
   pub within : k ≤ stop → r ≤ stop
 

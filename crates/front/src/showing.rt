@@ -6,7 +6,7 @@ ghost use lib.Ieee.{size};
 ghost use Rattle.walk.specs.declared.state.Tail.the-variants.{Empty, Mixed};
 ghost use Rattle.walk.specs.Tail.{Unmixed};
 ghost use Rattle.remnant.specs.Rest.{RestAt};
-ghost use Rattle.front.specs.Front.{firstOf, Kept, Changed, Appended, Stepped};
+ghost use Rattle.front.specs.Front.{firstOf, Kept, Changed, FrontGrown, Stepped};
 use remnant::Rest;
 use walk::Change;
 use walk::Tail;
@@ -95,7 +95,7 @@ fn changed(carry: bool, limb: u64, tail: Tail, change: Change) -> Front
 
 // One column more: its limb, and what it does to the column above.
 fn append(front: Front, low: u64, change: Change) -> Front
-    ensures { λ r. ⌜ Appended front low change r ⌝ }
+    ensures { λ r. ⌜ FrontGrown front low change r ⌝ }
 {
     let tail = front.tail;
     let under = walk::pass_tail(tail, low, change);

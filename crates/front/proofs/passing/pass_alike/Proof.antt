@@ -2,13 +2,13 @@
 use mathlib.Core.Path.{sym, _∙_}
 use Prim.Native.Nat.{_-_}
 use borrow.Author.Needs.{needs}
-use Rattle.front.specs.Passing.{Within, PassedAlike}
+use Rattle.front.specs.Passing.{NotPast, PassedAlike}
 use Rattle.front.proofs.Passed.{within-none, within-on, alike-none, alike-on}
 use Rattle.front.proofs.passing.pass_alike.Statement.{statement}
 use Rattle.front.proofs.passing.pass_alike.Tie as tie
 
 abbrev Inv-loop : tie.InvT-loop
-Inv-loop pair first second from stop k₀ k = Within from stop k × PassedAlike (pair .gap) first second from k
+Inv-loop pair first second from stop k₀ k = NotPast from stop k × PassedAlike (pair .gap) first second from k
 
 abbrev μ-loop : tie.MeasureT-loop
 μ-loop pair first second from stop k₀ k = stop - k

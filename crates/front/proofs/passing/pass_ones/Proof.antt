@@ -1,13 +1,13 @@
 -- `passing::pass_ones`: the operands come to all ones in each column passed, so that the number after their sum is moved up. Assumes nothing.
 use Prim.Native.Nat.{_-_}
 use borrow.Author.Needs.{needs}
-use Rattle.front.specs.Passing.{Within, PassedOnes}
+use Rattle.front.specs.Passing.{NotPast, PassedOnes}
 use Rattle.front.proofs.Passed.{within-none, within-on, ones-none, ones-on}
 use Rattle.front.proofs.passing.pass_ones.Statement.{statement}
 use Rattle.front.proofs.passing.pass_ones.Tie as tie
 
 abbrev Inv-loop : tie.InvT-loop
-Inv-loop pair first second from stop k₀ k = Within from stop k × PassedOnes (pair .gap) first second from k
+Inv-loop pair first second from stop k₀ k = NotPast from stop k × PassedOnes (pair .gap) first second from k
 
 abbrev μ-loop : tie.MeasureT-loop
 μ-loop pair first second from stop k₀ k = stop - k

@@ -1,13 +1,13 @@
 -- `passing::pass_zeros`: both operands are 0 in each column passed, so that their sum is moved up. Assumes nothing.
 use Prim.Native.Nat.{_-_}
 use borrow.Author.Needs.{needs}
-use Rattle.front.specs.Passing.{Within, PassedZeros}
+use Rattle.front.specs.Passing.{NotPast, PassedZeros}
 use Rattle.front.proofs.Passed.{within-none, within-on, zeros-none, zeros-on}
 use Rattle.front.proofs.passing.pass_zeros.Statement.{statement}
 use Rattle.front.proofs.passing.pass_zeros.Tie as tie
 
 abbrev Inv-loop : tie.InvT-loop
-Inv-loop pair first second from stop k₀ k = Within from stop k × PassedZeros (pair .gap) first second from k
+Inv-loop pair first second from stop k₀ k = NotPast from stop k × PassedZeros (pair .gap) first second from k
 
 abbrev μ-loop : tie.MeasureT-loop
 μ-loop pair first second from stop k₀ k = stop - k
