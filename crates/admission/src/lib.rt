@@ -1,5 +1,7 @@
 // Refusals 1 to 5 of a call: one in which every test holds is told at once, any other by the tests in their order.
 // The second way has numbers and slices of its own, so that on the first they need not stand in memory.
+#![tactic(auto)]
+
 ghost use Rattle.std.specs.Prelude.{◌≡◌, true, false, ◌&&◌, [], ◌≤◌, ◌<◌, length};
 ghost use Rattle.checks.specs.Number.{is_zero_kind, operand_of};
 ghost use Rattle.checks.specs.Check.{accepted, mode_holds, exponent_holds, top_bit_holds, spare_bits_hold, pair_refusal, single_refusal, converted_refusal, alone_refusal};

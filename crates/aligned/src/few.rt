@@ -48,7 +48,7 @@ fn either_head(second: bool, a: Head, b: Head) -> Head
 }
 
 // The larger of two runs less the other, and whether the second is the larger.
-#[derive(Drop)]
+#[derive(Clone, Copy)]
 struct Apart {
     swapped: bool,
     high: u64,

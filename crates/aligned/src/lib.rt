@@ -5,6 +5,8 @@
 //     second   [ alike     | b   b   ..   b       ]
 //     target   [ a - b   a - b   ..   a - b | 0 0 ]     of unlike signs
 //
+#![tactic(auto)]
+
 ghost use Rattle.std.specs.Prelude.{◌≡◌, false, cond, ℕ, ◌+◌, ◌-◌, ◌*◌, ◌%◌, ◌^◌, ◌≤◌, ◌<◌, ltb, length, get_or};
 ghost use Rattle.std.specs.Bool.{beq};
 ghost use Rattle.limb.specs.Value.{value_of};

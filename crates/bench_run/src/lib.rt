@@ -1,4 +1,6 @@
 // For the measurements only: the sum of two runs of limbs, for a C program to time.
+#![tactic(auto)]
+
 ghost use Rattle.run.specs.Sum.{Added};
 
 // Adds the operand and a carry into the target, as far as the target goes. Returns the carry out.

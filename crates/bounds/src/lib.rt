@@ -1,4 +1,6 @@
 // Are the least and the greatest sum refused alike, as too large or too small?
+#![tactic(auto)]
+
 ghost use Rattle.std.specs.Prelude.{◌≡◌, false, cond, ℕ, suc, ◌+◌, ◌-◌, ◌*◌, ◌/◌, ◌^◌, ◌≤◌, ltb, eqb};
 ghost use Rattle.std.specs.Float.Ieee.{size};
 ghost use Rattle.limb.specs.Carry.{bit};

@@ -39,6 +39,28 @@ alike_rounded : (w : Way) (p s : ℕ) (g : Bool) (lo hi : ℕ) → Alike w p lo 
 unfolding rounded
 alike_rounded w p s g lo hi e = let a = e.number in let b = e.tern in cc
 
+-- what a difference may come to, whose last column is still to be read
+minus_span : (D : ℕ) → 0 < D → (most : Bool) → Span 1 (D - 1) true 1 most (2 * (D - 1) + bit true) (2 * D + bit most)
+unfolding bit
+minus_span D pos most = record {
+  a = bit true;
+  b = bit most;
+  least = omega arith;
+  most = greatest (bit most);
+  part_least = (omega arith, omega arith);
+  part_most = last most;
+  carry = le_refl 1;
+  apart = omega arith;
+  wide = inr (inl refl);
+}
+  where
+    last : (most : Bool) → Part most (2 ^ 1) (bit most)
+    last true = (omega arith, omega arith)
+    last false = refl
+
+    greatest : (b : ℕ) → 2 * D + b ≡ (D - 1 + 1) * 2 ^ 1 + b
+    greatest b = omega arith
+
 module _ (w : Way) (p : ℕ) (P : 0 < p) (e : ℕ) (E : 1 ≤ e) (g : Bool) (D : ℕ) where
   settled_plus : (least half : Bool) (i : ℕ) (most : Bool) → settled w p D least i most ≡ true → decided_answer w p e g D least half i most ≡ rounded w p (e - 1) g (2 * D + bit least)
   unfolding decided_answer
@@ -48,30 +70,7 @@ module _ (w : Way) (p : ℕ) (P : 0 < p) (e : ℕ) (E : 1 ≤ e) (g : Bool) (D :
   unfolding decided_answer
   settled_minus most half pos h =
       rw h (sym (half_answer w p P g e (D - 1) true E (settled_enough w p (D - 1) true 1 most h))
-      ∙ alike_rounded w p (e - 1) g _ _ (settled_if w p P 1 (D - 1) true 1 most (2 * (D - 1) + bit true) (2 * D + bit most) (span most) h))
-    where
-      last : (most : Bool) → Part most (2 ^ 1) (bit most)
-      last true = unfold bit in (omega arith, omega arith)
-      last false = unfold bit in refl
-
-      least : (b : ℕ) → 2 * (D - 1) + b ≡ (D - 1) * 2 ^ 1 + b
-      least b = omega arith
-
-      greatest : (b : ℕ) → 2 * D + b ≡ (D - 1 + 1) * 2 ^ 1 + b
-      greatest b = omega arith
-
-      span : (most : Bool) → Span 1 (D - 1) true 1 most (2 * (D - 1) + bit true) (2 * D + bit most)
-      span most = record {
-        a = bit true;
-        b = bit most;
-        least = least (bit true);
-        most = greatest (bit most);
-        part_least = unfold bit in (omega arith, omega arith);
-        part_most = last most;
-        carry = le_refl 1;
-        apart = unfold bit in omega arith;
-        wide = inr (inl refl);
-      }
+      ∙ alike_rounded w p (e - 1) g _ _ (settled_if w p P 1 (D - 1) true 1 most (2 * (D - 1) + bit true) (2 * D + bit most) (minus_span D pos most) h))
 
   pub settled_row : (half : Bool) (row : Row) → inner? row ≡ true → 0 < D → settled_by w p D row ≡ true → answer_by w p e g D half row ≡ rounded w p (e - 1) g (2 * D + bit (more_of row))
   unfolding settled_by answer_by more_of inner?

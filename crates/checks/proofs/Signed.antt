@@ -17,7 +17,7 @@ use Rattle.checks.specs.Number.{exponent_of}
 
 -- a value that is written and read back
 read_back : {z : ℤ} → SFits w32 z → to_z w64 (of_z w64 (to_z w32 (of_z w32 z))) ≡ z
-read_back {z} h = ap (λ (y : ℤ). to_z w64 (of_z w64 y)) (to_z-of_z h) ∙ to_z-of_z (sfits_widen tt h)
+read_back {z} h = ap (λ (y : ℤ). to_z w64 (of_z w64 y)) (to_z-of_z h) ∙ to_z-of_z {w = w64} (sfits_widen (tt {0}) h)
 
 -- z, counted from -b
 unfoldable pub from : ℕ → ℤ → ℕ
@@ -91,7 +91,7 @@ module _ (c : ℕ) (low : 1097364144128 ≤ c) (high : c ≤ 1101659111423) wher
 
   -- a difference that is written in 64 bits, read, written in 32 and read
   pub exponent_back : to_z w32 (of_z w32 (to_z w64 (of_z w64 (to_z w64 c -ℤ pos 1099511627776)))) ≡ exponent_of c
-  exponent_back = ap (λ (z : ℤ). to_z w32 (of_z w32 (to_z w64 (of_z w64 z)))) (counted_less c (omega arith)) ∙ ap (λ (z : ℤ). to_z w32 (of_z w32 z)) (to_z-of_z (sfits_widen tt exponent_fits)) ∙ to_z-of_z exponent_fits ∙ sym exponent_within
+  exponent_back = ap (λ (z : ℤ). to_z w32 (of_z w32 (to_z w64 (of_z w64 z)))) (counted_less c (omega arith)) ∙ ap (λ (z : ℤ). to_z w32 (of_z w32 z)) (to_z-of_z {w = w64} (sfits_widen (tt {0}) exponent_fits)) ∙ to_z-of_z exponent_fits ∙ sym exponent_within
 
 -- elsewhere it is 0
 pub exponent_below : (c : ℕ) → c < 1097364144128 → pos 0 ≡ exponent_of c

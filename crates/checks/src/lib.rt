@@ -1,17 +1,19 @@
 // Numbers as a caller hands them over, and tests 2 to 5, each alone.
+#![tactic(auto)]
+
 ghost use Rattle.std.specs.Prelude.{◌≡◌, [], ◌∷◌};
 ghost use Rattle.numbers.specs.Limits.{counted, limbs_for};
 ghost use Rattle.checks.specs.Number.{is_zero_kind, operand_of, turned_number, exponent_of, fetched};
 ghost use Rattle.checks.specs.Check.{precision_holds, length_holds, exponent_holds, top_bit_holds, spare_bits_hold, form_holds};
 
-#[derive(Drop)]
+#[derive(Clone, Copy)]
 pub enum Kind {
     Regular,
     Zero,
 }
 
 // A number without its limbs, which travel beside it as a lent slice, lowest first.
-#[derive(Drop)]
+#[derive(Clone, Copy)]
 pub struct Number {
     pub negative: bool,
     pub kind: Kind,
@@ -20,7 +22,7 @@ pub struct Number {
 }
 
 // A refusal's number and place; both 0 where nothing is refused.
-#[derive(Drop)]
+#[derive(Clone, Copy)]
 pub struct Refusal {
     pub rule: u8,
     pub place: u8,

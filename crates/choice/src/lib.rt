@@ -1,4 +1,6 @@
 // One of two, selected without a branch; and which of two operands comes first, as far as exponents and top limbs tell.
+#![tactic(auto)]
+
 ghost use Rattle.std.specs.Prelude.{◌≡◌, not, cond, ◌&&◌, ◌||◌, ltb, eqb};
 
 // The first of two counts, or the second.

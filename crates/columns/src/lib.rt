@@ -1,4 +1,6 @@
 // The columns of an operand: 64 digits each, from the top of the larger operand down.
+#![tactic(auto)]
+
 ghost use Rattle.std.specs.Prelude.{◌≡◌};
 ghost use Rattle.columns.specs.Column.{column_of, limb_below};
 

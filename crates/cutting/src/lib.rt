@@ -1,4 +1,6 @@
 // Lines and groups of three lines, cut from an input byte by byte.
+#![tactic(auto)]
+
 ghost use Rattle.std.specs.Prelude.{◌≡◌, cond, ◌+◌, ◌≤◌, ◌<◌, length, take};
 ghost use Rattle.cutting.specs.Lines.{line_room, ends_line};
 ghost use Rattle.cutting.specs.Group.{no_group, longer, held_of, Cuts, Grown, Within, Counts, Rooms, Takes};
@@ -16,7 +18,7 @@ pub fn line_room() -> usize
 }
 
 // How many lines of a group are whole, and how many bytes of each line are held.
-#[derive(Drop)]
+#[derive(Clone, Copy)]
 pub struct Held {
     pub lines: usize,
     pub first: usize,
@@ -25,7 +27,7 @@ pub struct Held {
 }
 
 // What is held after some bytes, and how many of them were taken.
-#[derive(Drop)]
+#[derive(Clone, Copy)]
 pub struct Progress {
     pub held: Held,
     pub taken: usize,

@@ -53,7 +53,7 @@ fn is_fixed(p: u64, pair: Pair, front: Front, k: u64) -> bool
 }
 
 // What is read, after so many columns, and whether they are seen to fix the answer.
-#[derive(Drop)]
+#[derive(Clone, Copy)]
 pub struct Reading {
     pub fixed: bool,
     pub front: Front,

@@ -1,1 +1,2 @@
 // Columns and depth: definitions in specs/, their theory in proofs/.
+#![tactic(auto)]

@@ -26,7 +26,7 @@ use settle::{Pair, Row, Way};
 use walk::Window;
 
 // Not fixed; fixed, the sum being D, and more if so said; fixed in a hole; fixed as a refusal.
-#[derive(Drop)]
+#[derive(Clone, Copy)]
 pub enum Verdict {
     Open,
     Fixed(bool),
@@ -35,7 +35,7 @@ pub enum Verdict {
 }
 
 // Where the walk ended: what is read of the sum, the columns, and the verdict.
-#[derive(Drop)]
+#[derive(Clone, Copy)]
 pub struct Walked {
     pub window: Window,
     pub columns: u64,

@@ -1,4 +1,6 @@
 // The walk down the columns of a sum, to the first that fixes the answer.
+#![tactic(auto)]
+
 mod prompt; // prompt.rt: the columns that fill the target, read at once
 mod going; // going.rt: the walk down the columns
 mod half; // half.rt: digits that lie inside a half

@@ -1,8 +1,10 @@
 // The desk program: groups of three lines from standard input, an answer for each to standard output.
+#![tactic(auto)]
+
 use cutting::{Held, LINE_ROOM};
 
 // What is held, and whether nothing can be written any more.
-#[derive(Drop)]
+#[derive(Clone, Copy)]
 struct Standing {
     held: Held,
     closed: bool,

@@ -1,4 +1,6 @@
 // The lines of the desk: what is asked of two numbers, and what is printed.
+#![tactic(auto)]
+
 mod order; // order.rt: the desk line
 mod telling; // telling.rt: the lines that are printed
 

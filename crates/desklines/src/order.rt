@@ -6,7 +6,7 @@ ghost use Rattle.desklines.specs.Order.{order_size, order_of};
 use checks::Refusal;
 
 // What a desk line asks; its refusal's rule is 0 where it is accepted.
-#[derive(Drop)]
+#[derive(Clone, Copy)]
 pub struct Order {
     pub subtracts: bool,
     pub precision: u64,

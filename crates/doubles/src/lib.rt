@@ -1,4 +1,6 @@
 // Numbers to doubles, and to an enclosing pair of doubles. A double is stated by its bits.
+#![tactic(auto)]
+
 ghost use Rattle.std.specs.Prelude.{◌≡◌, false};
 ghost use Rattle.numbers.specs.Operand.{WellFormed};
 ghost use Rattle.rounding.specs.Answer.{zero_of};
@@ -13,7 +15,7 @@ use select::Selected;
 mod pack; // pack.rt: bits of a double
 
 // Exact, with the double; the double lies below the number; it lies above; refused.
-#[derive(Drop)]
+#[derive(Clone, Copy)]
 pub enum Converted {
     Exact(f64),
     Below(f64),
@@ -22,14 +24,14 @@ pub enum Converted {
 }
 
 // The down answer and the up answer.
-#[derive(Drop)]
+#[derive(Clone, Copy)]
 pub struct Enclosing {
     pub lower: f64,
     pub upper: f64,
 }
 
 // The pair, and the refusal; under any refusal both ends are +0.
-#[derive(Drop)]
+#[derive(Clone, Copy)]
 pub struct Enclosed {
     pub pair: Enclosing,
     pub refusal: Refusal,

@@ -4,6 +4,8 @@
 //     first    [ top limb  ..  lowest limb ]
 //     second                                       .. [ limb ..
 //
+#![tactic(auto)]
+
 ghost use Rattle.std.specs.Prelude.{◌≡◌, true, false, cond, ◌+◌, ◌*◌, ◌≤◌, ◌<◌, length};
 ghost use Rattle.numbers.specs.Operand.{Operand};
 ghost use Rattle.rounding.specs.Mode.{mode_of, way};

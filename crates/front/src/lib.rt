@@ -4,6 +4,8 @@
 //     column        0       1 ..
 //     carry | limb        | tail
 //
+#![tactic(auto)]
+
 mod showing; // showing.rt: what is read, and one column more
 mod passing; // passing.rt: columns that leave it as it is, passed over
 

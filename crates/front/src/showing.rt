@@ -9,7 +9,7 @@ ghost use Rattle.front.specs.Front.{first_of, Kept, Changed, FrontGrown, Stepped
 use remnant::Rest;
 use walk::{Change, Tail};
 
-#[derive(Drop)]
+#[derive(Clone, Copy)]
 pub struct Front {
     pub carry: bool,
     pub limb: u64,

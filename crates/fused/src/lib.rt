@@ -4,6 +4,8 @@
 //     b          b[n-1] ..  b[1]   b[0]      or b moved down by less than a limb
 //     target     t[n-1] ..  t[1]   t[0]
 //
+#![tactic(auto)]
+
 ghost use Rattle.std.specs.Prelude.{◌≡◌, false, ◌+◌, ◌*◌, ◌/◌, ◌%◌, ◌^◌, ◌≤◌, ◌<◌, length, get_or};
 ghost use Rattle.limb.specs.Value.{value_of};
 ghost use Rattle.fused.specs.Fused.{LimbSum, LimbDifference, SummedTo, TakenTo, SumOf, DifferenceOf};

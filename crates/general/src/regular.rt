@@ -74,7 +74,7 @@ fn ordered(
 }
 
 // No column in which two operands differ, of so many; or the first, where the first is larger, or the second.
-#[derive(Drop)]
+#[derive(Clone, Copy)]
 pub enum Differ {
     Never(u64),
     First(u64),

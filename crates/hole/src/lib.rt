@@ -1,4 +1,6 @@
 // The hole between two mantissas: is the answer fixed there?
+#![tactic(auto)]
+
 ghost use Rattle.std.specs.Prelude.{◌≡◌, Bool, cond, ◌+◌, ◌-◌, ◌/◌, ◌^◌, ◌≤◌, eqb};
 ghost use Rattle.std.specs.Float.Ieee.{size};
 ghost use Rattle.limb.specs.Value.{value_of};
@@ -23,7 +25,7 @@ fn last_is_one(limbs: &[u64], p: u64) -> bool
 // Whether only the first digit is 1.
 fn is_power(limbs: &[u64], p: u64) -> bool
     requires { Formed p limbs.now }
-    ensures* { do let m = value_of limbs.now / 2 ^ spare_bits p in ⌜ result ≡ eqb m (2 ^ (size m - 1)) ⌝ }
+    ensures { let m = value_of limbs.now / 2 ^ spare_bits p in result ≡ eqb m (2 ^ (size m - 1)) }
 {
     shifts::low_is_zero(limbs, 64 * limbs.len() - 1)
 }

@@ -53,7 +53,7 @@ pub fn round_up(target: &mut [u64], spare: u64, up: bool) -> bool
 }
 
 // One limb with the last unit where it is asked for, and whether all digits were ones.
-#[derive(Drop)]
+#[derive(Clone, Copy)]
 pub struct Raised {
     pub limb: u64,
     pub over: bool,

@@ -1,4 +1,6 @@
 // The digits kept of a run of limbs: the target truncated to them in one walk, and the last unit added in a second.
+#![tactic(auto)]
+
 mod truncation; // truncation.rt: walk one
 mod increment; // increment.rt: walk two
 

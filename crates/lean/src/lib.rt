@@ -1,4 +1,6 @@
 // Do the least and the greatest sum round alike?
+#![tactic(auto)]
+
 ghost use Rattle.std.specs.Prelude.{◌≡◌, true, ℕ, ◌-◌, ◌<◌};
 ghost use Rattle.limb.specs.Carry.{bit};
 ghost use Rattle.decide.specs.Class.{lean, alike, enough, settled};
@@ -10,7 +12,7 @@ use remnant::Rest;
 use settle::Way;
 
 // The sign of selected less exact, on sizes.
-#[derive(Drop)]
+#[derive(Clone, Copy)]
 pub enum Lean {
     Low,
     Even,

@@ -12,7 +12,7 @@ ghost use Rattle.leap.specs.Runs.{Runs};
 use crate::{difference_above, sum_above};
 
 // What stands above and below the target.
-#[derive(Drop)]
+#[derive(Clone, Copy)]
 pub struct Guarded {
     pub carry: bool,
     pub guard: u64,

@@ -6,6 +6,8 @@
 //     target   [ top limb          ..            ]
 //
 // An operand's lowest limb comes into the last column only, where it is fetched.
+#![tactic(auto)]
+
 ghost use Rattle.std.specs.Prelude.{◌≡◌, false, ◌+◌, ◌-◌, ◌≤◌, ◌<◌, length};
 ghost use Rattle.shifts.specs.LowLimbs.{LowLimbs};
 ghost use Rattle.columns.specs.Column.{read_to};

@@ -2,20 +2,22 @@
 //
 //     kind (2)  precision (4)  exponent (8)  limb (16)  ..  limb (16)  LF
 //     0         2              6             14, top first
+#![tactic(auto)]
+
 ghost use Rattle.std.specs.Prelude.{◌≡◌};
 ghost use Rattle.lines.specs.Line.{shortest_line, longest_line, line_size};
 
 use checks::{Number, Refusal};
 
 // The number that a line holds, without its limbs, and the refusal; a refused number is +0 of precision 2.
-#[derive(Drop)]
+#[derive(Clone, Copy)]
 pub struct Head {
     pub number: Number,
     pub refusal: Refusal,
 }
 
 // How many bytes were written, and the refusal; 0 where the number is refused.
-#[derive(Drop)]
+#[derive(Clone, Copy)]
 pub struct Written {
     pub count: usize,
     pub refusal: Refusal,

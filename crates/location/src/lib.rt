@@ -1,4 +1,6 @@
 // Where the part below the last kept digit lies, and what each mode makes of it.
+#![tactic(auto)]
+
 ghost use Rattle.std.specs.Prelude.{◌≡◌, false, ◌+◌, ◌*◌, ◌%◌, ◌^◌, ◌≤◌, ◌<◌};
 ghost use Rattle.limb.specs.Carry.{bit};
 ghost use Rattle.rounding.specs.Mode.{over, mode_of, way};
@@ -7,7 +9,7 @@ ghost use Rattle.location.specs.Ternary.{ternary_of};
 ghost use Rattle.location.specs.Location.{location_of, goes_out, goes_up, inexact, side};
 
 // Nothing below the last kept digit, or something below, at or above the middle.
-#[derive(Drop)]
+#[derive(Clone, Copy)]
 pub enum Location {
     Exact,
     Lower,

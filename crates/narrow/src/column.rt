@@ -7,7 +7,7 @@ ghost use Rattle.narrow.specs.Column.{is_whole, is_hole, has_more, Settles, Foun
 use settle::Pair;
 
 // What is to be rounded: a carry, a limb and a guard, and whether something lies below; or nothing is fixed.
-#[derive(Drop)]
+#[derive(Clone, Copy)]
 pub struct Column {
     pub fixed: bool,
     pub carry: bool,

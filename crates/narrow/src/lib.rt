@@ -4,6 +4,8 @@
 //     first    [ u                  ] ..
 //     second        [ v             ] ..      gap digits below
 //     sum    c [ limb               ]         p digits, and below them the rest
+#![tactic(auto)]
+
 mod column; // column.rt: the first column as a run to be rounded
 mod seeing; // seeing.rt: the run rounded
 mod looking; // looking.rt: the same of two operands in any order

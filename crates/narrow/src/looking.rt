@@ -12,7 +12,7 @@ use choice::{either, either_sign};
 use settle::Pair;
 
 // What is seen of two operands, in their own order: the sign, and the limbs used of each.
-#[derive(Drop)]
+#[derive(Clone, Copy)]
 pub struct Sight {
     pub seen: Seen,
     pub negative: bool,

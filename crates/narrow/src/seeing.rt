@@ -10,7 +10,7 @@ use place::Placed;
 use settle::Pair;
 
 // What one column says: nothing yet, or the answer's sign, limb, exponent and ternary value.
-#[derive(Drop)]
+#[derive(Clone, Copy)]
 pub struct Seen {
     pub open: bool,
     pub negative: bool,

@@ -11,7 +11,7 @@ use settle::Pair;
 use wide::{Filled, none};
 
 // The limb below the target, and whether it borrows.
-#[derive(Drop)]
+#[derive(Clone, Copy)]
 pub struct Guard {
     pub limb: u64,
     pub borrow: bool,

@@ -5,6 +5,8 @@
 //     target   [ top limb  ..  lowest limb ]
 //     guard                                 [ limb ]
 //
+#![tactic(auto)]
+
 ghost use Rattle.std.specs.Prelude.{◌≡◌, false, ◌<◌, length};
 ghost use Rattle.numbers.specs.Operand.{Operand};
 ghost use Rattle.rounding.specs.Mode.{mode_of};

@@ -1,4 +1,6 @@
 // The order of two numbers.
+#![tactic(auto)]
+
 ghost use Rattle.std.specs.Prelude.{◌≡◌, true, cond, ◌||◌, List, [], ℕ, ◌+◌, ◌≤◌, length};
 ghost use Rattle.checks.specs.Number.{is_zero_kind, operand_of};
 ghost use Rattle.checks.specs.Passes.{Passes};
@@ -7,7 +9,7 @@ ghost use Rattle.order.specs.Steps.{from_top, aligned_order, regular_order, reve
 
 use checks::{Number, Refusal};
 
-#[derive(Drop)]
+#[derive(Clone, Copy)]
 pub enum Order {
     Less,
     Equal,
@@ -15,7 +17,7 @@ pub enum Order {
 }
 
 // The order, and the refusal; a refused comparison is Equal beside its number and place.
-#[derive(Drop)]
+#[derive(Clone, Copy)]
 pub struct Compared {
     pub order: Order,
     pub refusal: Refusal,

@@ -1,4 +1,6 @@
 // Parts of a run of limbs: one limb, the limbs from a place on, clearing, copying, trimming.
+#![tactic(auto)]
+
 ghost use Rattle.std.specs.Prelude.{◌≡◌, ◌+◌, ◌≤◌, length, get_or, drop, replicate};
 ghost use Rattle.parts.specs.Copied.{CopiedTo};
 ghost use Rattle.parts.specs.Trimmed.{trimmed};

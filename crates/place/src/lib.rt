@@ -5,6 +5,8 @@
 //           0 0 1 b b b b b b b b b b b b b b            none: it moves up, as far as there are zeros
 //           [ p digits ][ digits below: offset + spare ]
 //
+#![tactic(auto)]
+
 ghost use Rattle.std.specs.Prelude.{◌≡◌, Bool, false, [], ◌∷◌, ℕ, ◌-◌, ◌*◌, ◌%◌, ◌^◌, ◌≤◌, length};
 ghost use Rattle.limb.specs.Value.{value_of};
 ghost use Rattle.place.specs.Placed.{run_rule};
@@ -21,7 +23,7 @@ use location::{locate, rounds_up, ternary};
 pub use one::{round_carried, round_one, round_raised, settle_one};
 
 // The rule by which the run is refused, or 0; the counted exponent and the ternary value of what is selected.
-#[derive(Drop)]
+#[derive(Clone, Copy)]
 pub struct Placed {
     pub rule: u8,
     pub exponent: u64,
@@ -29,7 +31,7 @@ pub struct Placed {
 }
 
 // The same, with the digits selected in one limb.
-#[derive(Drop)]
+#[derive(Clone, Copy)]
 pub struct PlacedLimb {
     pub placed: Placed,
     pub limb: u64,

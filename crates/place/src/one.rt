@@ -17,7 +17,7 @@ use crate::{PlacedLimb, round_limb};
 const FIRST_DIGIT: u64 = 9223372036854775808;
 
 // The digits of a run from its first on in one limb and a guard, and the weight of the guard's last digit.
-#[derive(Drop)]
+#[derive(Clone, Copy)]
 struct Normal {
     limb: u64,
     guard: u64,

@@ -1,4 +1,6 @@
 // Numbers and answers as structs of plain fields, laid out as C lays them out, and their making out of the kernel's own.
+#![tactic(auto)]
+
 ghost use Rattle.std.specs.Prelude.{◌≡◌};
 ghost use Rattle.order.specs.Order.{number_of};
 ghost use Rattle.plain.specs.Plain.{kind_from, number_from, sum_from};
@@ -13,7 +15,7 @@ use unpack::FromDouble;
 
 // A number without its limbs, which travel beside it as a lent slice, lowest first.
 #[repr(C)]
-#[derive(Drop)]
+#[derive(Clone, Copy)]
 pub struct PlainNumber {
     pub precision: u64,
     pub exponent: i32,
@@ -23,7 +25,7 @@ pub struct PlainNumber {
 
 // A sum: the number, the depth, the limbs used of the first operand and of the second, the ternary value, the refusal.
 #[repr(C)]
-#[derive(Drop)]
+#[derive(Clone, Copy)]
 pub struct PlainSum {
     pub number: PlainNumber,
     pub depth: u64,
@@ -36,7 +38,7 @@ pub struct PlainSum {
 
 // The number of a double or of a line, and the refusal.
 #[repr(C)]
-#[derive(Drop)]
+#[derive(Clone, Copy)]
 pub struct PlainRead {
     pub number: PlainNumber,
     pub rule: u8,
@@ -45,7 +47,7 @@ pub struct PlainRead {
 
 // The order as -1, 0 or 1, and the refusal.
 #[repr(C)]
-#[derive(Drop)]
+#[derive(Clone, Copy)]
 pub struct PlainOrder {
     pub order: i8,
     pub rule: u8,
@@ -54,7 +56,7 @@ pub struct PlainOrder {
 
 // A double, the sign of it less the number, and the refusal.
 #[repr(C)]
-#[derive(Drop)]
+#[derive(Clone, Copy)]
 pub struct PlainDouble {
     pub value: f64,
     pub ternary: i8,
@@ -64,7 +66,7 @@ pub struct PlainDouble {
 
 // The two doubles, and the refusal.
 #[repr(C)]
-#[derive(Drop)]
+#[derive(Clone, Copy)]
 pub struct PlainPair {
     pub lower: f64,
     pub upper: f64,
@@ -74,7 +76,7 @@ pub struct PlainPair {
 
 // A part of a run of limbs that goes to its top: the place of its lowest limb, and how many limbs it has.
 #[repr(C)]
-#[derive(Drop)]
+#[derive(Clone, Copy)]
 pub struct PlainRun {
     pub start: usize,
     pub count: usize,
@@ -82,7 +84,7 @@ pub struct PlainRun {
 
 // How many bytes were written, and the refusal.
 #[repr(C)]
-#[derive(Drop)]
+#[derive(Clone, Copy)]
 pub struct PlainWritten {
     pub count: usize,
     pub rule: u8,

@@ -1,4 +1,6 @@
 // A stored line read: its checks in their order, its number, its limbs.
+#![tactic(auto)]
+
 ghost use Rattle.std.specs.Prelude.{◌≡◌, true, ◌+◌, ◌*◌, ◌^◌, ◌≤◌, ◌<◌, length};
 ghost use Rattle.checks.specs.Number.{operand_of, nothing};
 ghost use Rattle.checks.specs.Check.{form_holds};

@@ -1,4 +1,6 @@
 // Refusals 1 to 5 in their one order: the first rule that is broken, and its first place.
+#![tactic(auto)]
+
 ghost use Rattle.std.specs.Prelude.{◌≡◌, length};
 ghost use Rattle.checks.specs.Number.{operand_of};
 ghost use Rattle.checks.specs.Check.{pair_refusal};
@@ -7,7 +9,7 @@ ghost use Rattle.refusals.specs.Judged.{judged_of, judged_target, first_place, r
 use checks::{Number, Refusal};
 
 // What tests 2 to 5 say of an operand or a target: true where the test holds.
-#[derive(Drop)]
+#[derive(Clone, Copy)]
 struct Judged {
     precision: bool,
     limbs: bool,

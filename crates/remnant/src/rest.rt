@@ -8,7 +8,7 @@ use walk::{Tail, Window};
 
 // Of a rest r of so many digits, u being 2 to their number: whether there are p digits above it, whether it is empty, whether r is 0, u - 1, u/2 - 1, u/2 or
 // more than u/2, and whether the last digit kept is 1.
-#[derive(Drop)]
+#[derive(Clone, Copy)]
 pub struct Rest {
     pub enough: bool,
     pub empty: bool,

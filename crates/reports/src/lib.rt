@@ -1,4 +1,6 @@
 // What a sum reports: the number, the ternary value, the depth, the limbs used of each operand, and the refusal.
+#![tactic(auto)]
+
 mod report; // report.rt: what a sum reports
 
 pub use report::{Sum, answered, exchanged, refused, retold, used, zero, zero_sign};

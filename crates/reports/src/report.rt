@@ -17,7 +17,7 @@ use place::Placed;
 
 // The depth, the number, the limbs used of the first operand and of the second, the ternary value, and the refusal. No two of the three
 // counts stand side by side, so that two of them, written one by one, are not read as one.
-#[derive(Drop)]
+#[derive(Clone, Copy)]
 pub struct Sum {
     pub depth: u64,
     pub number: Number,

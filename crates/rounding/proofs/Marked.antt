@@ -22,7 +22,7 @@ use Rattle.rounding.proofs.Scale.{exact}
 use Rattle.rounding.proofs.Range.{refused_large, refused_small}
 
 -- two functions that agree on a list agree at each of its members
-agree : {A : Type 0} (f g : Row → A) {l : List Row} (r : Row) → Memᴰ r l → map f l ≡ map g l → f r ≡ g r
+agree : {A : Type 0} (f g : Row → A) (r : Row) {l : List Row} → Memᴰ r l → map f l ≡ map g l → f r ≡ g r
 agree f g r (Memᴰ.head h) e = cc
 agree f g r (Memᴰ.tail m) e = agree f g r m (cc)
 

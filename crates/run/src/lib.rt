@@ -1,4 +1,6 @@
 // One run of limbs added into another, or taken off it.
+#![tactic(auto)]
+
 mod sum; // sum.rt: one run added into another
 mod difference; // difference.rt: one run taken off another
 

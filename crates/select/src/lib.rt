@@ -1,4 +1,6 @@
 // The 53 digits that a mode selects of a number, out of its two highest limbs and whether anything stands below.
+#![tactic(auto)]
+
 ghost use Rattle.std.specs.Prelude.{◌≡◌, not, false, ◌-◌, ◌*◌, ◌%◌, ◌^◌, ◌≤◌, ◌<◌, eqb, length};
 ghost use Rattle.limb.specs.Value.{value_of};
 ghost use Rattle.select.specs.Steps.{Leads, Selects};
@@ -12,7 +14,7 @@ use place::Placed;
 //
 //     [top] [guard] [  more  .. low]
 //
-#[derive(Drop)]
+#[derive(Clone, Copy)]
 pub struct Head {
     pub top: u64,
     pub guard: u64,
@@ -59,7 +61,7 @@ pub fn leading(limbs: &[u64], precision: u64) -> Head
 }
 
 // What is selected, and its digits at the top of a limb.
-#[derive(Drop)]
+#[derive(Clone, Copy)]
 pub struct Selected {
     pub placed: Placed,
     pub limb: u64,

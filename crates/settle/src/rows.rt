@@ -5,7 +5,7 @@ ghost use Rattle.settle.specs.Ways.{theory_way};
 ghost use Rattle.settle.specs.Rows.{seen_row, far_row, row_of, Modest};
 
 // A mode on sizes: to the closest, not above, not below.
-#[derive(Drop)]
+#[derive(Clone, Copy)]
 pub enum Way {
     Near,
     Under,
@@ -30,7 +30,7 @@ pub fn way_of(mode: u8, negative: bool) -> Way
 }
 
 // Two operands of which the first begins at the top of column 0 and the second gap digits below; a precision of 0 is no operand.
-#[derive(Drop)]
+#[derive(Clone, Copy)]
 pub struct Pair {
     pub same: bool,
     pub first: u64,
@@ -41,7 +41,7 @@ pub struct Pair {
 
 // The least sum is D, the sum of what is read, and perhaps some more; the greatest D, or the next unit, and perhaps some more. Or the least lies just above the unit
 // below D, and the greatest is D and perhaps some more.
-#[derive(Drop)]
+#[derive(Clone, Copy)]
 pub enum Row {
     Exact,
     Plus { least: bool, next: bool, most: bool },

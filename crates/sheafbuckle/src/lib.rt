@@ -1,4 +1,6 @@
 // The functions that C and Rust link: the kernel's own, over numbers and slices, with every answer as a struct of plain fields.
+#![tactic(auto)]
+
 mod arithmetic; // arithmetic.rt: add, subtract, re-round
 mod ordering; // ordering.rt: compare, turn the sign
 mod conversion; // conversion.rt: to double, enclosing pair, from double

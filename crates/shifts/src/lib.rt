@@ -1,4 +1,6 @@
 // Bits of a run of limbs at any offset, and moves by bits.
+#![tactic(auto)]
+
 ghost use Rattle.std.specs.Prelude.{◌≡◌, ◌+◌, ◌-◌, ◌*◌, ◌/◌, ◌%◌, ◌^◌, ◌≤◌, ◌<◌, eqb, length};
 ghost use Rattle.limb.specs.Value.{value_of};
 ghost use Rattle.shifts.specs.LowLimbs.{LowLimbs};

@@ -1,4 +1,6 @@
 // A sum of two regular numbers of one limb each, in a target of three limbs or more: near each other it stands in two limbs and is exact; far apart the larger stands, with a little more below it or a little less.
+#![tactic(auto)]
+
 ghost use Rattle.std.specs.Prelude.{◌≡◌, false, cond, [], ◌∷◌, ◌<◌, length};
 ghost use Rattle.numbers.specs.Operand.{Operand};
 ghost use Rattle.rounding.specs.Mode.{mode_of};

@@ -11,7 +11,7 @@ use checks::Refusal;
 use cutting::{Held, cut, line_room, start, within};
 
 // What is held after a piece, how many of its bytes were taken, and how many bytes were printed.
-#[derive(Drop)]
+#[derive(Clone, Copy)]
 pub struct Served {
     pub held: Held,
     pub taken: usize,

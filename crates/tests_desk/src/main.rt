@@ -1,5 +1,7 @@
 // Runs the stored inputs of the desk, one a line on standard input in lowercase hexadecimal, each split into pieces in
 // four ways, and prints what the desk prints for each split, after a line `# 17, pieces of 7` that names it.
+#![tactic(auto)]
+
 mod pieces; // pieces.rt: one input, split in four ways
 
 ghost use Rattle.std.specs.Prelude.{◌≤◌};
@@ -27,7 +29,7 @@ fn bytes_at(digits: &[u8], bytes: &mut [u8; INPUT_ROOM]) -> usize
 }
 
 // How many digits of a line are held, and which input it is, counted from 1.
-#[derive(Drop)]
+#[derive(Clone, Copy)]
 struct Reading {
     held: usize,
     input: u64,

@@ -1,5 +1,7 @@
 // Runs the questions on standard input, one a line, and prints one answer a line. The first byte of a line names the
 // part of the kernel that is asked; the fields of its question follow.
+#![tactic(auto)]
+
 mod answers; // answers.rt: fields that answers of several parts have
 mod comparisons; // comparisons.rt: part 0, two numbers compared
 mod conversions; // conversions.rt: part 1, numbers to doubles and back

@@ -5,7 +5,7 @@ use checks::Number;
 use reports::Sum;
 
 // What a line asks, without its limbs. Operation 0 adds, 1 subtracts, any other re-rounds the first number.
-#[derive(Drop)]
+#[derive(Clone, Copy)]
 struct Asked {
     operation: u64,
     mode: u8,

@@ -1,5 +1,7 @@
 // Runs the sums, differences and re-roundings on standard input, one a line, and prints one answer a line. A line that
 // begins with `#` is printed as it is: it tells what the next line asks, and the expected answer, in words.
+#![tactic(auto)]
+
 mod case; // case.rt: one case
 
 ghost use Rattle.std.specs.Prelude.{◌≤◌};

@@ -1,4 +1,6 @@
 // Lowercase hexadecimal digits, and whole numbers written with any number of them, highest first.
+#![tactic(auto)]
+
 ghost use Rattle.std.specs.Prelude.{◌≡◌, ◌%◌, ◌^◌, length};
 ghost use Rattle.text.specs.Digits.{digit_of, all_digits, glyph_of, worth, numeral};
 

@@ -4,6 +4,8 @@
 //     other        [ limb     ]
 //              [ high     ][ low      ]
 //
+#![tactic(auto)]
+
 ghost use Rattle.std.specs.Prelude.{◌≡◌, true, false, ◌+◌, ◌-◌, ◌*◌, ◌%◌, ◌^◌, ◌≤◌, ◌<◌};
 ghost use Rattle.twolimbs.specs.Two.{head_in, Brought};
 
@@ -11,7 +13,7 @@ ghost use Rattle.twolimbs.specs.Two.{head_in, Brought};
 const FIRST_DIGIT: u64 = 9223372036854775808;
 
 // What stands in two columns, and the carry out of them.
-#[derive(Drop)]
+#[derive(Clone, Copy)]
 pub struct Head {
     pub carry: bool,
     pub high: u64,
@@ -58,7 +60,7 @@ pub fn difference(first: Head, second: Head) -> Head
 }
 
 // The digits from the first on, at the top of two limbs, and the exponent that goes along.
-#[derive(Drop)]
+#[derive(Clone, Copy)]
 pub struct Normal {
     pub high: u64,
     pub low: u64,

@@ -1,4 +1,6 @@
 // The number of a double's bits.
+#![tactic(auto)]
+
 ghost use Rattle.std.specs.Prelude.{◌≡◌, ◌+◌, ◌<◌, length};
 ghost use Rattle.std.specs.Float.Ieee.{size};
 ghost use Rattle.unpack.specs.Double.{exponent_field, double_sign, double_digits, double_scale};
@@ -14,7 +16,7 @@ const ONES: u64 = 2047;
 const FIRST_DIGIT: u64 = 4503599627370496;
 
 // The number, and the refusal; a refused number is +0 of precision 2.
-#[derive(Drop)]
+#[derive(Clone, Copy)]
 pub struct FromDouble {
     pub number: Number,
     pub refusal: Refusal,

@@ -2,7 +2,7 @@
 ghost use Rattle.std.specs.Prelude.{◌≤◌, length};
 
 // Where the next byte of the chunk stands, how many bytes of a line are held, and whether that line is whole.
-#[derive(Drop)]
+#[derive(Clone, Copy)]
 pub struct Cutter {
     pub next: usize,
     pub held: usize,

@@ -1,6 +1,8 @@
 // What test programs share: lines cut from the input, fields read from a line, fields written.
 //
 // Fields stand in lowercase hexadecimal, each of a fixed number of digits, with nothing between them.
+#![tactic(auto)]
+
 mod cutting;
 mod reading;
 mod writing;

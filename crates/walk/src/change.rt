@@ -3,7 +3,7 @@ ghost use Rattle.std.specs.Prelude.{◌^◌, ◌≤◌, ◌<◌, length};
 ghost use Rattle.walk.specs.Change.{Risen, Fallen, ChangedAt, PassesLimb};
 
 // What a new column does to the one above it.
-#[derive(Drop)]
+#[derive(Clone, Copy)]
 pub enum Change {
     Stay,
     Rise,
@@ -59,7 +59,7 @@ pub fn change_at(target: &mut [u64], from: usize, carry: bool, change: Change) -
 }
 
 // A limb after a change, and the change of what stands above it.
-#[derive(Drop)]
+#[derive(Clone, Copy)]
 pub struct LimbPassed {
     pub limb: u64,
     pub up: Change,

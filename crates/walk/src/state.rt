@@ -10,7 +10,7 @@ ghost use Rattle.walk.specs.Append.{Appended, Summed, Led, Differed};
 use crate::change::{Change, change_at, pass_limb};
 use crate::tail::pass_tail;
 
-#[derive(Drop)]
+#[derive(Clone, Copy)]
 pub enum Tail {
     Empty,
     Zeros,
@@ -18,7 +18,7 @@ pub enum Tail {
     Mixed,
 }
 
-#[derive(Drop)]
+#[derive(Clone, Copy)]
 pub struct Window {
     pub skipped: u64,
     pub carry: bool,

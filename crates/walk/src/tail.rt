@@ -34,7 +34,7 @@ fn longer(tail: Tail, low: u64) -> Tail
 }
 
 // A tail after one column more, and the change of what stands above it.
-#[derive(Drop)]
+#[derive(Clone, Copy)]
 pub struct TailPassed {
     pub tail: Tail,
     pub up: Change,

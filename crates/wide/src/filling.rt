@@ -12,7 +12,7 @@ use crate::hollow::fill_hollow;
 use settle::Pair;
 
 // What stands in the target is a run: carry, target, guard, and more below it; so many columns fix it. Or it is left open.
-#[derive(Drop)]
+#[derive(Clone, Copy)]
 pub struct Filled {
     pub open: bool,
     pub carry: bool,

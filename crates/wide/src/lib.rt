@@ -1,4 +1,6 @@
 // A sum read at once into its target, where the columns that fill it, or one more, fix the answer.
+#![tactic(auto)]
+
 mod filling; // filling.rt: which way the target is filled
 mod below; // below.rt: what lies below the columns read
 mod exactly; // exactly.rt: the columns that fill the target fix the answer

@@ -4,7 +4,7 @@ ghost use Rattle.std.specs.Prelude.{◌≡◌, true};
 use place::Placed;
 
 // The answer and its sign, the depth, and the limbs used of each operand. Or it is left open.
-#[derive(Drop)]
+#[derive(Clone, Copy)]
 pub struct Attempt {
     pub open: bool,
     pub negative: bool,

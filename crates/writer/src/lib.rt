@@ -1,4 +1,6 @@
 // A number written as a stored line: its checks in their order, then its bytes from the room's start.
+#![tactic(auto)]
+
 ghost use Rattle.std.specs.Prelude.{◌≡◌, ◌*◌, ◌≤◌, length};
 ghost use Rattle.lines.specs.Line.{kind_byte, head_digits, limb_digits, line_of, shortest_line};
 ghost use Rattle.lines.specs.Writing.{onto, written_of, room_after};
