@@ -35,6 +35,7 @@ digits_of p q k h l =
 
 -- an even number of at most p digits, and not fewer: its last digit is 0, also where it is 2 ^ p and has one more
 even_digits : (p q k : ℕ) → 1 ≤ p → 2 ^ p ≤ q → q ≤ 2 ^ suc p → q % 2 ≡ 0 → digits (suc p) (q * 2 ^ k) % 2 ≡ 0
+even_digits zero q k P h l e = elim P [ ]
 even_digits (suc p) q k P h l e = elim (le_or_lt (2 ^ suc (suc p)) q) [
   | inr g ↦ ap (λ (x : ℕ). x % 2) (digits_of (suc p) q k h g) ∙ e
   | inl g ↦

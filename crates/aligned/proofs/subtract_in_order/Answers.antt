@@ -1,0 +1,9 @@
+-- `aligned::subtract_in_order` is right in each order. Assumes nothing.
+use Rattle.aligned.proofs.AsFound.{reducible_named, subtracted_named}
+use Rattle.aligned.proofs.subtract_in_order.Goals as goal
+
+pub subtract_below-requires : goal.subtract_below-requires
+subtract_below-requires c = reducible_named c.either_run-first.ensures c.either_run-second.ensures c.requires
+
+pub returns : goal.returns
+returns c = subtracted_named c.either_run-first.ensures c.either_run-second.ensures c.subtract_below.ensures

@@ -1,0 +1,13 @@
+-- `descent::ending::clear_low` is right since after i turns the lowest i limbs are 0 and the others as they were. Assumes nothing.
+use mathlib.Core.Path.{◌≡◌}
+use mathlib.Core.List.{◌++◌}
+use Prim.Native.Nat.{◌-◌, ◌≤◌}
+use lib.ListN.{length, drop, replicate}
+use Rattle.descent.proofs.ending.clear_low.Given as goal
+
+abbrev pub invariant-loop-i : goal.invariant-loop-i
+invariant-loop-i l =
+    (l.i ≤ l.n) × (l.n ≤ length l.initial.target) × (length l.target ≡ length l.initial.target) × (l.target ≡ replicate l.i 0 ++ drop l.i l.initial.target)
+
+abbrev pub decreases-loop-i : goal.decreases-loop-i
+decreases-loop-i l = l.n - l.i

@@ -1,0 +1,21 @@
+-- `near::fill_guarded` is right since one column more is what falls below the target, and a glance tells what both fix. Assumes nothing.
+use mathlib.Core.Path.{sym, ◌∙◌}
+use mathlib.Core.Bool.{true≢false}
+use native.Mathlib.Nat.{le_refl}
+use Rattle.descent.proofs.GoingDown.{room_kept}
+use Rattle.wide.proofs.FullTarget.{offered_second, offered_modest}
+use Rattle.near.proofs.Alongside.{guards}
+use Rattle.near.proofs.filling.fill_guarded.Goals as goal
+
+pub returns-then-carry : goal.returns-then-carry
+returns-then-carry c = (c.fill_moved-carry.ensures.size, λ e. absurd (true≢false (sym c.none.ensures ∙ e)))
+
+pub glance_guarded-requires : goal.glance_guarded-requires
+glance_guarded-requires c =
+    let room = room_kept _ _ _ c.fill_moved-carry.ensures.size c.requires.0 in
+    (room, offered_modest c.args.p _ c.args.first.now c.args.second.now c.requires.1 _ _ room (le_refl _), offered_second c.args.p _ c.args.first.now c.args.second.now c.requires.1)
+
+pub returns : goal.returns
+returns c =
+    let m = c.fill_moved-carry.ensures in
+    (m.size, c.glance_guarded.ensures c.args.first.now c.args.second.now (guards c.args.p _ c.args.first.now c.args.second.now c.args.target.now c.requires.0 c.requires.2 c.requires.4 _ _ _ _ c.if-carry.false m c.guard_of-guard.ensures c.requires.3))

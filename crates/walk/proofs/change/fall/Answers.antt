@@ -1,0 +1,42 @@
+-- `walk::fall` is right since at each step the run with a one at `from` is the run as it came with a one lent at limb i. Assumes nothing.
+use Rattle.walk.proofs.Moving.{fall_passes, fall_ends}
+use mathlib.Core.Path.{◌≡◌, refl, ◌∙◌}
+use Prim.Native.Nat.{suc, ◌-◌, ◌^◌, ◌<◌}
+use native.Mathlib.Omega.{arith}
+use lib.ListN.{length, get_or, length-set}
+use lib.Seq.{take-set-le}
+use Rattle.limb.specs.Carry.{bit}
+use borrow.Author.Rules.{rules}
+use Rattle.walk.proofs.change.fall.Goals as goal
+
+pub loop-i-init : goal.loop-i-init
+loop-i-init c = (search rules, search rules, refl, refl, refl)
+
+pub returns-then-t-ne0 : goal.returns-then-t-ne0
+unfolding bit
+returns-then-t-ne0 c =
+    let l = c.loop-i in
+    let t = l.target in
+    let within : l.i < length t = omega arith in
+    record {
+      same_length = length-set t l.i _ ∙ l.invariant.2;
+      below = take-set-le _ t l.i _ l.invariant.0 ∙ l.invariant.3;
+      value = let g : suc (get_or t l.i 0 - 1) ≡ get_or t l.i 0 = omega arith in omega (arith, fall_ends (2 ^ 64) t l.i within _ _ _ g l.invariant.4);
+    }
+
+pub loop-i-smaller : goal.loop-i-smaller
+loop-i-smaller c = simp length-set (omega arith)
+
+pub loop-i-preserved : goal.loop-i-preserved
+loop-i-preserved c =
+    let l = c.loop-i in
+    let t = l.target in
+    let within : l.i < length t = omega arith in
+    (omega arith, omega arith, length-set t l.i _ ∙ l.invariant.2, take-set-le _ t l.i _ l.invariant.0 ∙ l.invariant.3, fall_passes (2 ^ 64) t l.i within _ _ _ c.if-t-ne0.false (omega arith) l.invariant.4)
+
+pub returns : goal.returns
+unfolding bit
+returns c =
+    let l = c.loop-i in
+    let e : l.i ≡ length l.target = omega arith in
+    record { same_length = l.invariant.2; below = l.invariant.3; value = omega (arith, rw (e, l.invariant.2) at l.invariant.4) }

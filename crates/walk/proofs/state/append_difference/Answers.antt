@@ -1,0 +1,32 @@
+-- `walk::append_difference` is right since the limb of the difference stands below and its borrow changes what is above by one. Assumes nothing.
+use native.Mathlib.Nat.{pos_of_ne-zero}
+use Rattle.limb.specs.Carry.{bit}
+use Rattle.walk.proofs.Walking.{difference_led, difference_stays, difference_falls}
+use borrow.Author.Rules.{rules}
+use Rattle.walk.proofs.state.append_difference.Goals as goal
+
+pub returns-then-filled-eq0 : goal.returns-then-filled-eq0
+unfolding bit
+returns-then-filled-eq0 c =
+    let g = c.args in
+    let d = c.sub_borrow-s in
+    let p = c.lead in
+    difference_led g.w p.result g.a g.b g.target.now p.new.target d.result.difference d.result.borrow d.ensures p.ensures
+
+pub returns-then-s : goal.returns-then-s
+unfolding bit
+returns-then-s c =
+    let g = c.args in
+    let d = c.sub_borrow-s in
+    let p = c.append in
+    difference_falls g.w p.result g.a g.b g.target.now p.new.target d.result.difference (λ i. (c.slice_known-1.given i).fits) (pos_of_ne-zero c.if-filled-eq0.false) (search rules)
+    (rw c.if-s.true at d.ensures) p.ensures
+
+pub returns-else-s : goal.returns-else-s
+unfolding bit
+returns-else-s c =
+    let g = c.args in
+    let d = c.sub_borrow-s in
+    let p = c.append-else-s in
+    difference_stays g.w p.result g.a g.b g.target.now p.new.target d.result.difference (λ i. (c.slice_known-1.given i).fits) (pos_of_ne-zero c.if-filled-eq0.false)
+    (rw c.if-s.false at d.ensures) p.ensures
