@@ -2,78 +2,79 @@
 #![tactic(auto)]
 
 use cutting::{Held, LINE_ROOM};
+use std::io;
+use std::io::{BufRead, BufReader, Write};
+use stream::Served;
 
-// What is held, and whether nothing can be written any more.
-#[derive(Clone, Copy)]
-struct Standing {
-    held: Held,
-    closed: bool,
-}
+// How many bytes of the input are read at a time, at most.
+const PIECE_ROOM: usize = 65536;
 
-// Serves a piece of the input, and writes what is printed whenever there may be no room for more.
-fn serve_piece(
+// The room for what is printed for a piece.
+const OUT_ROOM: usize = 65536;
+
+// Serves bytes of a piece, as many as there is room for their answers, and writes what is printed for them.
+fn serve_piece<W: Write>(
     held: Held,
     piece: &[u8],
     first: &mut [u8],
     second: &mut [u8],
     third: &mut [u8],
     out: &mut [u8],
-) -> Standing {
-    let mut h = held;
-    let mut at: usize = 0;
-    while at < piece.len() {
-        let s = stream::serve(h, &piece[at..], first, second, third, out);
-        let told = s.told;
-        if !io::write_all(1, &out[0..told]) {
-            return Standing {
-                held: h,
-                closed: true,
-            };
-        }
-        if s.taken == 0 {
-            return Standing {
-                held: h,
-                closed: true,
-            };
-        }
-        h = s.held;
-        at += s.taken;
-    }
-    Standing {
-        held: h,
-        closed: false,
-    }
+    output: &mut W,
+) -> io::Result<Served> {
+    let served = stream::serve(held, piece, first, second, third, out);
+    let told = served.told;
+    output.write_all(&out[0..told])?;
+    Ok(served)
 }
 
 // The end of the input.
-fn finish(held: Held, first: &[u8], second: &[u8], third: &[u8], out: &mut [u8]) {
+fn finish<W: Write>(
+    held: Held,
+    first: &[u8],
+    second: &[u8],
+    third: &[u8],
+    out: &mut [u8],
+    output: &mut W,
+) -> io::Result<()> {
     let told = stream::finish(held, first, second, third, out);
-    io::write_all(1, &out[0..told]);
+    output.write_all(&out[0..told])
 }
 
-// Piece after piece, to the end of the input or to the first write that fails.
-fn run(piece: &mut [u8], first: &mut [u8], second: &mut [u8], third: &mut [u8], out: &mut [u8]) {
-    let mut held = cutting::start();
-    let mut turns: u64 = 18446744073709551615;
-    while 0 < turns {
-        let got = io::read_full(0, piece);
-        if got == 0 {
-            return finish(held, first, second, third, out);
-        }
-        let d = serve_piece(held, &piece[0..got], first, second, third, out);
-        if d.closed {
-            return;
-        }
-        held = d.held;
-        turns -= 1;
-    }
-}
-
-fn main() {
-    let mut piece = io::large_buffer();
-    let mut out = io::large_buffer();
+// Piece after piece, to the end of the input or to the first write that fails. A read that fails ends the input.
+fn run<R: BufRead, W: Write>(input: &mut R, output: &mut W) -> io::Result<()> {
     let mut first = [0u8; LINE_ROOM];
     let mut second = [0u8; LINE_ROOM];
     let mut third = [0u8; LINE_ROOM];
-    run(&mut piece, &mut first, &mut second, &mut third, &mut out);
+    let mut out = [0u8; OUT_ROOM];
+    let mut held = cutting::start();
+    for _ in 0..u64::MAX {
+        let piece = match input.fill_buf() {
+            Ok(piece) => piece,
+            Err(_) => break,
+        };
+        if piece.is_empty() {
+            break;
+        }
+        let served = serve_piece(
+            held,
+            piece,
+            &mut first,
+            &mut second,
+            &mut third,
+            &mut out,
+            output,
+        )?;
+        if served.taken == 0 {
+            return Ok(());
+        }
+        held = served.held;
+        input.consume(served.taken);
+    }
+    finish(held, &first, &second, &third, &mut out, output)
+}
+
+fn main(rt: HostRuntime) -> io::Result<()> {
+    let mut input = BufReader::with_capacity(rt.alloc(), PIECE_ROOM, rt.stdin())?;
+    run(&mut input, &mut rt.stdout())
 }
