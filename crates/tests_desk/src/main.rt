@@ -4,7 +4,10 @@
 
 mod pieces; // pieces.rt: one input, split in four ways
 
-ghost use Rattle.std.specs.Prelude.{◌≤◌};
+ghost use Rattle.std.specs.Prelude.{◌≤◌, IfOk};
+
+use std::io;
+use std::io::{BufWriter, Read, Write};
 
 // How many bytes an input has at most, and its line.
 const INPUT_ROOM: usize = 32768;
@@ -36,14 +39,19 @@ struct Reading {
 }
 
 // A whole line.
-fn run_line(r: Reading, line: &[u8; LINE_DIGITS], bytes: &mut [u8; INPUT_ROOM])
+fn run_line<W: Write>(
+    r: Reading,
+    line: &[u8; LINE_DIGITS],
+    bytes: &mut [u8; INPUT_ROOM],
+    output: &mut W,
+) -> io::Result<()>
     requires { r.held ≤ 65536 }
 {
     let digits = &line[..];
     let held = r.held;
     let n = bytes_at(&digits[0..held], bytes);
     let given = &bytes[..];
-    pieces::run_input(r.input, &given[0..n]);
+    pieces::run_input(r.input, &given[0..n], output)
 }
 
 // One byte more of a line, while there is room.
@@ -58,62 +66,65 @@ fn keep(line: &mut [u8; LINE_DIGITS], held: usize, b: u8) -> usize
 }
 
 // A byte of the input.
-fn take_byte(
+fn take_byte<W: Write>(
     b: u8,
     r: Reading,
     line: &mut [u8; LINE_DIGITS],
     bytes: &mut [u8; INPUT_ROOM],
-) -> Reading
+    output: &mut W,
+) -> io::Result<Reading>
     requires { r.held ≤ 65536 }
-    ensures { result.held ≤ 65536 }
+    ensures { IfOk result (λ after. after.held ≤ 65536) }
 {
     if b == 10 {
-        run_line(r, line, bytes);
-        return Reading {
+        run_line(r, line, bytes, output)?;
+        return Ok(Reading {
             held: 0,
             input: std::num::wrapping_add_u64(r.input, 1),
-        };
+        });
     }
-    Reading {
+    Ok(Reading {
         held: keep(line, r.held, b),
         input: r.input,
-    }
+    })
 }
 
-fn run_chunk(
+fn run_chunk<W: Write>(
     chunk: &[u8],
     start: Reading,
     line: &mut [u8; LINE_DIGITS],
     bytes: &mut [u8; INPUT_ROOM],
-) -> Reading
+    output: &mut W,
+) -> io::Result<Reading>
     requires { start.held ≤ 65536 }
-    ensures { result.held ≤ 65536 }
+    ensures { IfOk result (λ after. after.held ≤ 65536) }
 {
     let mut r = start;
     let mut i: usize = 0;
     while i < chunk.len() {
-        r = take_byte(chunk[i], r, line, bytes);
+        r = take_byte(chunk[i], r, line, bytes, output)?;
         i += 1;
     }
-    r
+    Ok(r)
 }
 
-fn run_all(buf: &mut [u8], line: &mut [u8; LINE_DIGITS], bytes: &mut [u8; INPUT_ROOM]) {
-    let mut r = Reading { held: 0, input: 1 };
-    let mut turns: u64 = 18446744073709551615;
-    while 0 < turns {
-        let got = io::read_full(0, buf);
-        if got == 0 {
-            return;
-        }
-        r = run_chunk(&buf[0..got], r, line, bytes);
-        turns -= 1;
-    }
-}
-
-fn main() {
-    let mut buf = io::large_buffer();
+fn run_all<R: Read, W: Write>(input: &mut R, output: &mut W) -> io::Result<()> {
+    let mut buf = [0u8; 65536];
     let mut line = [0u8; LINE_DIGITS];
     let mut bytes = [0u8; INPUT_ROOM];
-    run_all(&mut buf, &mut line, &mut bytes);
+    let mut r = Reading { held: 0, input: 1 };
+    for _ in 0..u64::MAX {
+        let got = input.read(&mut buf)?;
+        if got == 0 {
+            break;
+        }
+        r = run_chunk(&buf[0..got], r, &mut line, &mut bytes, output)?;
+    }
+    Ok(())
+}
+
+fn main(rt: HostRuntime) -> io::Result<()> {
+    let mut output = BufWriter::new(rt.alloc(), rt.stdout())?;
+    run_all(&mut rt.stdin(), &mut output)?;
+    output.flush()
 }

@@ -9,6 +9,9 @@ mod stored_lines; // stored_lines.rt: part 2, numbers to stored lines and back
 
 ghost use Rattle.std.specs.Prelude.{◌≤◌};
 
+use std::io;
+use std::io::{BufWriter, Read, Write};
+
 // The answer of the part that is asked; nothing where there is no such part.
 fn run_case(line: &[u8], out: &mut [u8; 4096]) -> usize
     ensures { result ≤ 4096 }
@@ -26,51 +29,56 @@ fn run_case(line: &[u8], out: &mut [u8; 4096]) -> usize
     }
 }
 
-fn print_case(line: &[u8; 4096], held: usize, out: &mut [u8; 4096])
+fn print_case<W: Write>(
+    line: &[u8; 4096],
+    held: usize,
+    out: &mut [u8; 4096],
+    output: &mut W,
+) -> io::Result<()>
     requires { held ≤ 4096 }
 {
     let whole = &line[..];
     let n = run_case(&whole[0..held], out);
     let told = &out[..];
-    io::write_all(1, &told[0..n]);
+    output.write_all(&told[0..n])
 }
 
 // Every line that ends in the chunk; the state after it.
-fn run_chunk(
+fn run_chunk<W: Write>(
     start: vectors::Cutter,
     chunk: &[u8],
     line: &mut [u8; 4096],
     out: &mut [u8; 4096],
-) -> vectors::Cutter {
+    output: &mut W,
+) -> io::Result<vectors::Cutter> {
     let mut c = vectors::cut(start, chunk, line);
-    let mut turns: u64 = 18446744073709551615;
-    while 0 < turns {
-        turns -= 1;
+    for _ in 0..u64::MAX {
         if !c.whole {
-            return c;
+            break;
         }
-        print_case(line, c.held, out);
+        print_case(line, c.held, out, output)?;
         c = vectors::cut(c, chunk, line);
     }
-    c
+    Ok(c)
 }
 
-fn run_all(buf: &mut [u8], line: &mut [u8; 4096], out: &mut [u8; 4096]) {
+fn run_all<R: Read, W: Write>(input: &mut R, output: &mut W) -> io::Result<()> {
+    let mut buf = [0u8; 65536];
+    let mut line = [0u8; 4096];
+    let mut out = [0u8; 4096];
     let mut c = vectors::start();
-    let mut turns: u64 = 18446744073709551615;
-    while 0 < turns {
-        let got = io::read_full(0, buf);
+    for _ in 0..u64::MAX {
+        let got = input.read(&mut buf)?;
         if got == 0 {
-            return;
+            break;
         }
-        c = run_chunk(c, &buf[0..got], line, out);
-        turns -= 1;
+        c = run_chunk(c, &buf[0..got], &mut line, &mut out, output)?;
     }
+    Ok(())
 }
 
-fn main() {
-    let mut buf = io::large_buffer();
-    let mut line = io::buffer();
-    let mut out = io::buffer();
-    run_all(&mut buf, &mut line, &mut out);
+fn main(rt: HostRuntime) -> io::Result<()> {
+    let mut output = BufWriter::new(rt.alloc(), rt.stdout())?;
+    run_all(&mut rt.stdin(), &mut output)?;
+    output.flush()
 }
