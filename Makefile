@@ -19,13 +19,18 @@ header = include/sheafbuckle.h
 built = target/c
 cargo = --offline --manifest-path rust/Cargo.toml --target-dir target/rust
 cases = target/face/parts.out
-sources := $(shell find crates -name '*.rt' -o -name '*.antt')
+sources := $(shell find crates -name out -prune -o \( -name '*.rt' -o -name '*.antt' \) -print)
 
 all: $(archive)
 
-target/staticlib/lib%.a: crates.txt $(sources)
-	rt staticlib $*
-	touch $@
+# each archive: the static library of crates/ that it is, under the name that its callers have
+$(archive): crate = sheafbuckle_c
+$(runs): crate = bench_run
+
+$(archive) $(runs): crates.txt $(sources)
+	cd crates/$(crate) && rt lib
+	mkdir -p $(@D)
+	cp crates/$(crate)/out/lib$(crate).a $@
 
 install: $(archive)
 	install -d '$(DESTDIR)$(PREFIX)/lib/pkgconfig' '$(DESTDIR)$(PREFIX)/include'

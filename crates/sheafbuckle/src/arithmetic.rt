@@ -6,8 +6,7 @@ ghost use Rattle.plain.specs.Plain.{number_from, sum_from};
 use plain::{PlainNumber, PlainSum, number_from, plain_sum};
 
 // x + y, rounded to p digits.
-#[unsafe(no_mangle)]
-pub extern "C" fn sheafbuckle_add<'a>(
+pub fn sheafbuckle_add<'a>(
     mode: u8,
     x: PlainNumber,
     xl: &'a [u64],
@@ -22,8 +21,7 @@ pub extern "C" fn sheafbuckle_add<'a>(
 }
 
 // x - y, rounded to p digits.
-#[unsafe(no_mangle)]
-pub extern "C" fn sheafbuckle_subtract<'a>(
+pub fn sheafbuckle_subtract<'a>(
     mode: u8,
     x: PlainNumber,
     xl: &'a [u64],
@@ -38,8 +36,7 @@ pub extern "C" fn sheafbuckle_subtract<'a>(
 }
 
 // x alone, rounded to p digits.
-#[unsafe(no_mangle)]
-pub extern "C" fn sheafbuckle_reround(
+pub fn sheafbuckle_reround(
     mode: u8,
     x: PlainNumber,
     xl: &[u64],

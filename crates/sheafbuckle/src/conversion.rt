@@ -13,24 +13,21 @@ use plain::{
 };
 
 // A number to a double under a mode.
-#[unsafe(no_mangle)]
-pub extern "C" fn sheafbuckle_to_double(mode: u8, x: PlainNumber, xl: &[u64]) -> PlainDouble
+pub fn sheafbuckle_to_double(mode: u8, x: PlainNumber, xl: &[u64]) -> PlainDouble
     ensures { result ≡ double_told (converted_of mode (operand_of (number_from x) xl.now)) }
 {
     plain_double(doubles::to_double(mode, number_from(x), xl))
 }
 
 // A number to the enclosing pair of doubles.
-#[unsafe(no_mangle)]
-pub extern "C" fn sheafbuckle_enclose(x: PlainNumber, xl: &[u64]) -> PlainPair
+pub fn sheafbuckle_enclose(x: PlainNumber, xl: &[u64]) -> PlainPair
     ensures { enclosed_from result ≡ enclosed_of (operand_of (number_from x) xl.now) }
 {
     plain_pair(doubles::enclose(number_from(x), xl))
 }
 
 // A double to a number of precision 53, exact; the target is one limb.
-#[unsafe(no_mangle)]
-pub extern "C" fn sheafbuckle_from_double(d: f64, target: &mut [u64]) -> PlainRead
+pub fn sheafbuckle_from_double(d: f64, target: &mut [u64]) -> PlainRead
     ensures result_value { read_from result ≡ read_of (length target.old) d }
     ensures target_after { target.new ≡ read_limbs target.old d }
 {

@@ -1,4 +1,4 @@
-// The functions that C and Rust link: the kernel's own, over numbers and slices, with every answer as a struct of plain fields.
+// What C and Rust call: the kernel's own functions, over numbers and slices, with every answer as a struct of plain fields. `sheafbuckle_c` exports each of them.
 #![tactic(auto)]
 
 mod arithmetic; // arithmetic.rt: add, subtract, re-round

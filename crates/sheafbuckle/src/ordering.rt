@@ -50,13 +50,7 @@ fn told(order: Order) -> PlainOrder
 }
 
 // The order of two numbers. The plain structs are handed on as they are, so that they are taken apart only where they are looked at.
-#[unsafe(no_mangle)]
-pub extern "C" fn sheafbuckle_compare(
-    x: PlainNumber,
-    xl: &[u64],
-    y: PlainNumber,
-    yl: &[u64],
-) -> PlainOrder
+pub fn sheafbuckle_compare(x: PlainNumber, xl: &[u64], y: PlainNumber, yl: &[u64]) -> PlainOrder
     ensures { result ≡ order_told (compared_of (number_from x) xl.now (number_from y) yl.now) }
 {
     if are_regular(x, xl, y, yl) {
@@ -75,8 +69,7 @@ pub extern "C" fn sheafbuckle_compare(
 }
 
 // The number with the other sign; takes anything.
-#[unsafe(no_mangle)]
-pub extern "C" fn sheafbuckle_turn_sign(x: PlainNumber) -> PlainNumber
+pub fn sheafbuckle_turn_sign(x: PlainNumber) -> PlainNumber
     ensures { number_from result ≡ turned_number (number_from x) }
 {
     plain_number(checks::turn_sign(number_from(x)))
