@@ -3,8 +3,7 @@
 
 use cutting::{Held, LINE_ROOM};
 use std::io;
-use std::io::{BufRead, BufReader, Write};
-use stream::Served;
+use std::io::{Read, Write};
 
 // How many bytes of the input are read at a time, at most.
 const PIECE_ROOM: usize = 65536;
@@ -12,7 +11,14 @@ const PIECE_ROOM: usize = 65536;
 // The room for what is printed for a piece.
 const OUT_ROOM: usize = 65536;
 
-// Serves bytes of a piece, as many as there is room for their answers, and writes what is printed for them.
+// What is held, and whether nothing more can be taken.
+#[derive(Clone, Copy)]
+struct Standing {
+    held: Held,
+    closed: bool,
+}
+
+// Serves a piece of the input, and writes what is printed whenever there may be no room for more.
 fn serve_piece<W: Write>(
     held: Held,
     piece: &[u8],
@@ -21,11 +27,26 @@ fn serve_piece<W: Write>(
     third: &mut [u8],
     out: &mut [u8],
     output: &mut W,
-) -> io::Result<Served> {
-    let served = stream::serve(held, piece, first, second, third, out);
-    let told = served.told;
-    output.write_all(&out[0..told])?;
-    Ok(served)
+) -> io::Result<Standing> {
+    let mut h = held;
+    let mut at: usize = 0;
+    while at < piece.len() {
+        let s = stream::serve(h, &piece[at..], first, second, third, out);
+        let told = s.told;
+        output.write_all(&out[0..told])?;
+        if s.taken == 0 {
+            return Ok(Standing {
+                held: h,
+                closed: true,
+            });
+        }
+        h = s.held;
+        at += s.taken;
+    }
+    Ok(Standing {
+        held: h,
+        closed: false,
+    })
 }
 
 // The end of the input.
@@ -42,39 +63,38 @@ fn finish<W: Write>(
 }
 
 // Piece after piece, to the end of the input or to the first write that fails. A read that fails ends the input.
-fn run<R: BufRead, W: Write>(input: &mut R, output: &mut W) -> io::Result<()> {
+fn run<R: Read, W: Write>(input: &mut R, output: &mut W) -> io::Result<()> {
+    let mut piece = [0u8; PIECE_ROOM];
     let mut first = [0u8; LINE_ROOM];
     let mut second = [0u8; LINE_ROOM];
     let mut third = [0u8; LINE_ROOM];
     let mut out = [0u8; OUT_ROOM];
     let mut held = cutting::start();
     for _ in 0..u64::MAX {
-        let piece = match input.fill_buf() {
-            Ok(piece) => piece,
+        let got = match input.read(&mut piece) {
+            Ok(got) => got,
             Err(_) => break,
         };
-        if piece.is_empty() {
+        if got == 0 {
             break;
         }
-        let served = serve_piece(
+        let standing = serve_piece(
             held,
-            piece,
+            &piece[0..got],
             &mut first,
             &mut second,
             &mut third,
             &mut out,
             output,
         )?;
-        if served.taken == 0 {
+        if standing.closed {
             return Ok(());
         }
-        held = served.held;
-        input.consume(served.taken);
+        held = standing.held;
     }
     finish(held, &first, &second, &third, &mut out, output)
 }
 
 fn main(rt: HostRuntime) -> io::Result<()> {
-    let mut input = BufReader::with_capacity(rt.alloc(), PIECE_ROOM, rt.stdin())?;
-    run(&mut input, &mut rt.stdout())
+    run(&mut rt.stdin(), &mut rt.stdout())
 }

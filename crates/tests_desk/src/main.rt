@@ -7,7 +7,7 @@ mod pieces; // pieces.rt: one input, split in four ways
 ghost use Rattle.std.specs.Prelude.{◌≤◌, IfOk};
 
 use std::io;
-use std::io::{BufWriter, Read, Write};
+use std::io::{Read, Write};
 
 // How many bytes an input has at most, and its line.
 const INPUT_ROOM: usize = 32768;
@@ -124,7 +124,5 @@ fn run_all<R: Read, W: Write>(input: &mut R, output: &mut W) -> io::Result<()> {
 }
 
 fn main(rt: HostRuntime) -> io::Result<()> {
-    let mut output = BufWriter::new(rt.alloc(), rt.stdout())?;
-    run_all(&mut rt.stdin(), &mut output)?;
-    output.flush()
+    run_all(&mut rt.stdin(), &mut rt.stdout())
 }

@@ -10,7 +10,7 @@ mod stored_lines; // stored_lines.rt: part 2, numbers to stored lines and back
 ghost use Rattle.std.specs.Prelude.{◌≤◌};
 
 use std::io;
-use std::io::{BufWriter, Read, Write};
+use std::io::{Read, Write};
 
 // The answer of the part that is asked; nothing where there is no such part.
 fn run_case(line: &[u8], out: &mut [u8; 4096]) -> usize
@@ -78,7 +78,5 @@ fn run_all<R: Read, W: Write>(input: &mut R, output: &mut W) -> io::Result<()> {
 }
 
 fn main(rt: HostRuntime) -> io::Result<()> {
-    let mut output = BufWriter::new(rt.alloc(), rt.stdout())?;
-    run_all(&mut rt.stdin(), &mut output)?;
-    output.flush()
+    run_all(&mut rt.stdin(), &mut rt.stdout())
 }

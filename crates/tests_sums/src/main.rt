@@ -7,7 +7,7 @@ mod case; // case.rt: one case
 ghost use Rattle.std.specs.Prelude.{◌≤◌};
 
 use std::io;
-use std::io::{BufWriter, Read, Write};
+use std::io::{Read, Write};
 
 fn is_comment(line: &[u8]) -> bool {
     if line.len() == 0 {
@@ -82,7 +82,5 @@ fn run_all<R: Read, W: Write>(input: &mut R, output: &mut W) -> io::Result<()> {
 }
 
 fn main(rt: HostRuntime) -> io::Result<()> {
-    let mut output = BufWriter::new(rt.alloc(), rt.stdout())?;
-    run_all(&mut rt.stdin(), &mut output)?;
-    output.flush()
+    run_all(&mut rt.stdin(), &mut rt.stdout())
 }
