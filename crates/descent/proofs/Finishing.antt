@@ -168,6 +168,7 @@ module _ (w : Window) (before after : List ℕ) (k D : ℕ) (s : Shows w before 
       go zero e h lead = rw e (times D (2 ^ (64 * (L + 1 - 0))) (2 ^ (64 * L)) pos (pow-lt (omega arith)))
         where
           times : (d h q : ℕ) → 0 < d → q < h → q < d * h
+          times zero h q a b = elim a [ ]
           times (suc d) h q a b = omega arith
       go (suc f) e h lead =
           let t : 2 ^ (64 * (w.filled + 0 - 1)) < D = lead (omega arith) in

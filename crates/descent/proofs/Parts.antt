@@ -31,6 +31,7 @@ ones_more t q h = some_more q (last q (2 ^ (64 * t)) h.1 (two (64 * t) (omega ar
     last q n e h = omega arith
 
     two : (j : ℕ) → 1 ≤ j → 2 ≤ 2 ^ j
+    two zero h = elim h [ ]
     two (suc j) h = rw (pow-succ' 2 j) (omega (arith, pow_pos j))
 
 pub mixed_more : (t q : ℕ) → TailIs Mixed t q → true ≡ not (eqb q 0)

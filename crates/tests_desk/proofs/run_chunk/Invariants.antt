@@ -3,7 +3,7 @@ use Rattle.std.proofs.Common.{◌-◌, ◌≤◌, length}
 use Rattle.tests_desk.proofs.run_chunk.Given as goal
 
 abbrev pub invariant-loop-i : goal.invariant-loop-i
-invariant-loop-i l = l.r.held ≤ 65536
+invariant-loop-i g l = l.r.held ≤ 65536
 
 abbrev pub decreases-loop-i : goal.decreases-loop-i
-decreases-loop-i l = length l.chunk - l.i
+decreases-loop-i g l = length l.chunk - l.i
