@@ -1,3 +1,5 @@
 pub mod Number
 pub mod Check
 pub mod Passes
+pub mod Room
+pub mod Held

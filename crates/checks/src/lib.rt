@@ -6,14 +6,18 @@ ghost use Rattle.numbers.specs.Limits.{counted, limbs_for};
 ghost use Rattle.checks.specs.Number.{is_zero_kind, operand_of, turned_number, exponent_of, fetched};
 ghost use Rattle.checks.specs.Check.{precision_holds, length_holds, exponent_holds, top_bit_holds, spare_bits_hold, form_holds};
 
-#[derive(Clone, Copy)]
+pub use operand::{Formed, Regular, Target};
+
+mod operand; // operand.rt: operands and targets that have passed their tests
+
+#[derive(Clone, Copy, Debug, PartialEq, Eq)]
 pub enum Kind {
     Regular,
     Zero,
 }
 
 // A number without its limbs, which travel beside it as a lent slice, lowest first.
-#[derive(Clone, Copy)]
+#[derive(Clone, Copy, Debug, PartialEq, Eq)]
 pub struct Number {
     pub negative: bool,
     pub kind: Kind,
