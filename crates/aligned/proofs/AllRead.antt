@@ -37,7 +37,7 @@ use Rattle.bridge.proofs.Told.{pair_first, pair_second, pair_gap, pair_top, top_
 use Rattle.bridge.proofs.Decision.{decision}
 use Rattle.bridge.proofs.Covered.{columns_above}
 use Rattle.bridge.proofs.Theorems.{leads_later, row_sum}
-use Rattle.descent.specs.Ready.{Room}
+use Rattle.checks.specs.Room.{Room}
 use Rattle.descent.specs.Course.{Course}
 use Rattle.descent.proofs.GoingOn.{sum_below, difference_is}
 use Rattle.descent.proofs.GoingDown.{room_some, open_before}

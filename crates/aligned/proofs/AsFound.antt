@@ -16,7 +16,7 @@ use Rattle.rounding.proofs.Order.{le_or_lt}
 use Rattle.checks.specs.declared.Number.{Number}
 use Rattle.checks.specs.Number.{operand_of}
 use Rattle.place.specs.declared.Placed.{Placed}
-use Rattle.descent.specs.Ready.{Room}
+use Rattle.checks.specs.Room.{Room}
 use Rattle.descent.proofs.AtOnce.{some_of}
 use Rattle.wide.specs.Attempted.{Attempted}
 use Rattle.wide.proofs.InOrder.{attempted_told}

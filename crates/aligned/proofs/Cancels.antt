@@ -14,7 +14,7 @@ use Rattle.rounding.specs.Sum.{zero_sign}
 use Rattle.place.specs.declared.Placed.{Placed}
 use Rattle.place.specs.Placed.{placed_of, limbs_after}
 use Rattle.columns.specs.Column.{read_to}
-use Rattle.descent.specs.Ready.{Room}
+use Rattle.checks.specs.Room.{Room}
 use Rattle.descent.specs.Finishing.{Left}
 use Rattle.descent.specs.Level.{Level}
 use Rattle.descent.proofs.Cancelled.{near, depth_told, sum, first_used, second_used}

@@ -23,7 +23,7 @@ use Rattle.checks.specs.Number.{operand_of}
 use Rattle.twolimbs.specs.Two.{head_in, Brought}
 use Rattle.twolimbs.specs.declared.Normal.{Normal}
 use Rattle.bridge.proofs.Covered.{columns_above}
-use Rattle.descent.specs.Ready.{Room}
+use Rattle.checks.specs.Room.{Room}
 use Rattle.descent.proofs.Handed.{beq_turned}
 use Rattle.descent.proofs.RegularEnd.{deep_enough}
 use Rattle.wide.specs.Attempted.{Attempted}

@@ -27,7 +27,7 @@ use Rattle.place.proofs.Rules.{rule_none}
 use Rattle.bridge.specs.Verdict.{read_sum}
 use Rattle.bridge.proofs.Covered.{columns_above}
 use Rattle.bridge.proofs.Refine.{scaled_up}
-use Rattle.descent.specs.Ready.{Room}
+use Rattle.checks.specs.Room.{Room}
 use Rattle.descent.specs.Course.{Course}
 use Rattle.descent.proofs.AtOnce.{some_of}
 use Rattle.descent.proofs.GoingDown.{open_before}

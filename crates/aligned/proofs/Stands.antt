@@ -21,7 +21,7 @@ use Rattle.numbers.specs.Limits.{least_exponent, most_exponent, limbs_for, most_
 use Rattle.numbers.specs.Operand.{Operand, WellFormed}
 use Rattle.rounding.proofs.Order.{le_or_lt}
 use Rattle.bridge.proofs.Told.{pair_top}
-use Rattle.descent.specs.Ready.{Room}
+use Rattle.checks.specs.Room.{Room}
 use Rattle.descent.proofs.GoingDown.{room_some}
 use Rattle.descent.proofs.Finishing.{cleared}
 use Rattle.descent.proofs.Handed.{beq_turned}

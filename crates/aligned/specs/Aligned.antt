@@ -5,7 +5,7 @@ use Rattle.limb.specs.Value.{value_of}
 use Rattle.limb.specs.Carry.{bit}
 use Rattle.numbers.specs.Operand.{Operand, WellFormed}
 use Rattle.bridge.specs.Verdict.{pair_of, read_sum}
-use Rattle.descent.specs.Ready.{Room}
+use Rattle.checks.specs.Room.{Room}
 use Rattle.descent.specs.Course.{Course, Inland}
 
 -- two regular operands of one exponent, and n limbs of each

@@ -10,7 +10,7 @@ ghost use Rattle.limb.specs.Value.{value_of};
 ghost use Rattle.rounding.specs.Mode.{mode_of};
 ghost use Rattle.checks.specs.Number.{operand_of};
 ghost use Rattle.twolimbs.specs.Two.{head_in};
-ghost use Rattle.descent.specs.Ready.{Room};
+ghost use Rattle.checks.specs.Room.{Room};
 ghost use Rattle.wide.specs.Attempted.{Attempted};
 ghost use Rattle.aligned.specs.Aligned.{Aligned};
 ghost use Rattle.aligned.specs.Few.{Few, AbsoluteDifference};

@@ -6,3 +6,4 @@ pub mod Form
 pub mod Passing
 pub mod Accepted
 pub mod Examples
+pub mod Held

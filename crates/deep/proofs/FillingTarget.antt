@@ -24,7 +24,7 @@ use Rattle.settle.specs.declared.rows.Pair.{Pair}
 use Rattle.settle.specs.declared.rows.Way as code
 use Rattle.bridge.specs.Verdict.{read_sum, settled_by}
 use Rattle.descent.specs.Course.{Inland}
-use Rattle.descent.specs.Ready.{Room}
+use Rattle.checks.specs.Room.{Room}
 use Rattle.descent.proofs.RegularEnd.{deep_enough}
 use Rattle.descent.proofs.Handed.{limbs_some, top_read, top_first}
 use Rattle.front.specs.declared.showing.Front.{Front}

@@ -2,7 +2,7 @@
 ghost use Rattle.std.specs.Prelude.{◌≡◌, ◌≤◌, length};
 ghost use Rattle.rounding.specs.Mode.{mode_of};
 ghost use Rattle.settle.specs.Rows.{Modest};
-ghost use Rattle.descent.specs.Ready.{Room};
+ghost use Rattle.checks.specs.Room.{Room};
 ghost use Rattle.wide.specs.Filling.{Offered, FillsBy};
 ghost use Rattle.deep.specs.Deep.{Deep, Inner};
 ghost use Rattle.deep.specs.Reading.{FrontFilled};

@@ -22,7 +22,7 @@ use Rattle.settle.specs.declared.rows.Row.TheVariants.{Exact, Plus, Minus}
 use Rattle.bridge.specs.Verdict.{pair_of, read_sum}
 use Rattle.descent.specs.declared.going.Verdict.{Verdict}
 use Rattle.descent.specs.declared.going.Verdict.TheVariants.{Fixed}
-use Rattle.descent.specs.Ready.{Room}
+use Rattle.checks.specs.Room.{Room}
 use Rattle.descent.specs.Course.{Course, Judged, Prompt, Held, Reached, Full, Inside}
 use Rattle.descent.proofs.JudgingRange.{digits_some, settled_as}
 use Rattle.descent.proofs.JudgingRows.{told_exact, told_plus, told_minus}

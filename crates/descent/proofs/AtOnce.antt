@@ -41,7 +41,7 @@ use Rattle.bridge.proofs.Answers.{settled_digits, sum_pos}
 use Rattle.bridge.proofs.Covered.{settled_covers, columns_above}
 use Rattle.bridge.proofs.Theorems.{leads_later}
 use Rattle.descent.specs.declared.going.Verdict.{Verdict}
-use Rattle.descent.specs.Ready.{Room}
+use Rattle.checks.specs.Room.{Room}
 use Rattle.descent.specs.Course.{Course, Judged, Stopped, Inland, Prompt, Sighted, Held, Begun, Going, Reached, Underway, Arriving, Arrived, open?}
 use Rattle.descent.proofs.GoingOn.{second_read, sum_is, sum_below, difference_is}
 use Rattle.descent.proofs.JudgingRows.{pair_modest}

@@ -33,7 +33,7 @@ use Rattle.bridge.proofs.Told.{pair_same, pair_gap, pair_second, pair_first}
 use Rattle.bridge.proofs.Decision.{equal_decision}
 use Rattle.bridge.proofs.Answers.{cancelled_sum}
 use Rattle.bridge.proofs.Covered.{columns_above}
-use Rattle.descent.specs.Ready.{Room}
+use Rattle.checks.specs.Room.{Room}
 use Rattle.descent.proofs.JudgingRange.{digits_some}
 use Rattle.descent.specs.Level.{Level}
 use Rattle.descent.proofs.RegularEnd.{deep_enough}

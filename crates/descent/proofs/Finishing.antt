@@ -37,7 +37,7 @@ use Rattle.walk.specs.Change.{Fallen}
 use Rattle.walk.specs.Window.{head_of, TailIs, Shows}
 use Rattle.walk.proofs.Showing.{whole_shows, tailed_shows, columns_open, columns_guarded}
 use Rattle.bridge.proofs.Refine.{enough_digits, refine, refine_less, refine_borrow, scaled_up}
-use Rattle.descent.specs.Ready.{Room}
+use Rattle.checks.specs.Room.{Room}
 use Rattle.descent.specs.Finishing.{Cleared, Ending, Left, HoleSays}
 use Rattle.settle.specs.declared.rows.Pair.{Pair}
 use Rattle.bridge.specs.Verdict.{hole_way}

@@ -24,7 +24,7 @@ use Rattle.bridge.specs.Verdict.{pair_of, read_sum}
 use Rattle.bridge.proofs.Theorems.{level_open}
 use Rattle.descent.specs.declared.going.Verdict.{Verdict}
 use Rattle.descent.specs.declared.going.Verdict.TheVariants.{Open, Fixed, InHole, Refused}
-use Rattle.descent.specs.Ready.{Room}
+use Rattle.checks.specs.Room.{Room}
 use Rattle.descent.specs.Course.{Course, Judged, Stopped, Held, Begun, Going, Reached, Underway, Arrived, open?}
 use Rattle.descent.proofs.GoingOn.{sum_is, difference_is, open_near, going_on, second_read}
 use Rattle.descent.proofs.JudgingMixed.{open_unmixed}

@@ -38,7 +38,7 @@ use Rattle.lean.proofs.Minus.{minus_under, minus_over, minus_near}
 use Rattle.bridge.specs.Verdict.{pair_of, read_sum, settled_by, test_by, verdict}
 use Rattle.bridge.proofs.Decision.{decision}
 use Rattle.bridge.proofs.Theorems.{hole_place}
-use Rattle.descent.specs.Ready.{Room}
+use Rattle.checks.specs.Room.{Room}
 use Rattle.descent.specs.Course.{Reached}
 use Rattle.descent.proofs.GoingOn.{deep_fixed}
 use Rattle.descent.proofs.JudgingRange.{guarded_long}

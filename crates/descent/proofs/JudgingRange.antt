@@ -29,7 +29,7 @@ use Rattle.bounds.proofs.Ranges.{not_large, not_small}
 use Rattle.bridge.specs.Verdict.{refused_by}
 use Rattle.descent.specs.declared.going.Verdict.{Verdict}
 use Rattle.descent.specs.declared.going.Verdict.TheVariants.{Open, Fixed, InHole, Refused}
-use Rattle.descent.specs.Ready.{Room}
+use Rattle.checks.specs.Room.{Room}
 use Rattle.descent.specs.Course.{Measured, Moderate, refused_as, verdict_as}
 
 -- ---- a target has few limbs

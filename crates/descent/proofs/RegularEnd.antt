@@ -41,7 +41,7 @@ use Rattle.bridge.proofs.Covered.{columns_above}
 use Rattle.descent.specs.declared.going.Verdict.{Verdict}
 use Rattle.descent.specs.declared.going.Verdict.TheVariants as verdict
 use Rattle.descent.specs.declared.going.Walked.{Walked}
-use Rattle.descent.specs.Ready.{Room}
+use Rattle.checks.specs.Room.{Room}
 use Rattle.descent.specs.Course.{Course, Judged, Stopped}
 use Rattle.descent.specs.Finishing.{Ending, Left, HoleSays}
 use Rattle.reports.specs.Signed.{Signed}

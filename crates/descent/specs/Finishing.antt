@@ -10,7 +10,7 @@ use Rattle.settle.specs.declared.rows.Pair.{Pair}
 use Rattle.walk.specs.declared.state.Window.{Window}
 use Rattle.walk.specs.Window.{Fits}
 use Rattle.bridge.specs.Verdict.{hole_way}
-use Rattle.descent.specs.Ready.{Room}
+use Rattle.checks.specs.Room.{Room}
 
 -- the lowest n limbs are 0, and the others stay
 pub record Cleared (n : ℕ) (before after : List ℕ) : Type 0 where

@@ -1,4 +1,3 @@
-pub mod Ready
 pub mod Course
 pub mod Finishing
 pub mod Level

@@ -11,7 +11,7 @@ ghost use Rattle.place.specs.Rounded.{refused_by};
 ghost use Rattle.kept.specs.Walk.{whole};
 ghost use Rattle.walk.specs.Window.{TailIs, Shows};
 ghost use Rattle.bridge.specs.Verdict.{pair_of, hole_way};
-ghost use Rattle.descent.specs.Ready.{Room};
+ghost use Rattle.checks.specs.Room.{Room};
 ghost use Rattle.descent.specs.Course.{Course, Stopped};
 ghost use Rattle.descent.specs.Finishing.{Cleared, Ending, Left, HoleSays};
 

@@ -16,7 +16,7 @@ ghost use Rattle.bounds.specs.Ends.{Ones};
 ghost use Rattle.hole.specs.Hole.{InHole, Signs};
 ghost use Rattle.settle.specs.declared.rows.Way as code;
 ghost use Rattle.bridge.specs.Verdict.{pair_of, refused_by};
-ghost use Rattle.descent.specs.Ready.{Room};
+ghost use Rattle.checks.specs.Room.{Room};
 ghost use Rattle.descent.specs.declared.going.Verdict.TheVariants as verdict;
 ghost use Rattle.descent.specs.Course.{Course, Judged, Stopped, Held, Begun, Going, Reached, Underway, Arrived, Arriving, Prompt, Measured, Moderate, refused_as, verdict_as, open?};
 

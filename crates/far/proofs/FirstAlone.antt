@@ -18,7 +18,7 @@ use Rattle.columns.specs.Column.{read_to}
 use Rattle.walk.specs.Change.{Fallen}
 use Rattle.settle.specs.declared.rows.Pair.{Pair}
 use Rattle.bridge.proofs.Told.{pair_first}
-use Rattle.descent.specs.Ready.{Room}
+use Rattle.checks.specs.Room.{Room}
 use Rattle.descent.specs.Course.{Inland, Prompt}
 use Rattle.descent.proofs.GoingDown.{room_some, room_kept}
 use Rattle.reports.specs.Counts.{used_of}

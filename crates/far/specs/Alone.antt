@@ -4,7 +4,7 @@ use Rattle.limb.specs.Value.{Below}
 use Rattle.place.specs.declared.Placed.{Placed}
 use Rattle.place.specs.Rounded.{rounded_placed, rounded_limbs}
 use Rattle.settle.specs.declared.rows.Pair.{Pair}
-use Rattle.descent.specs.Ready.{Room}
+use Rattle.checks.specs.Room.{Room}
 use Rattle.descent.specs.Course.{Inland}
 use Rattle.wide.specs.Filling.{Offered}
 use Rattle.far.specs.Beside.{Beside}

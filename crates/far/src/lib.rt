@@ -11,7 +11,7 @@ ghost use Rattle.numbers.specs.Operand.{Operand};
 ghost use Rattle.rounding.specs.Mode.{mode_of, way};
 ghost use Rattle.location.specs.declared.Location.TheVariants.{Upper};
 ghost use Rattle.location.specs.Location.{goes_up};
-ghost use Rattle.descent.specs.Ready.{Room};
+ghost use Rattle.checks.specs.Room.{Room};
 ghost use Rattle.wide.specs.Filling.{Holding, Offered};
 ghost use Rattle.wide.specs.Attempted.{Attempted};
 ghost use Rattle.far.specs.Beside.{Beside};

@@ -12,7 +12,7 @@ use Rattle.rounding.specs.Answer.{Answer, zero_of, number, too_large, too_small}
 use Rattle.depth.specs.Columns.{top_exponent, limbs_used}
 use Rattle.depth.specs.Depth.{plus, result}
 use Rattle.place.specs.Placed.{limbs_after}
-use Rattle.descent.specs.Ready.{Room}
+use Rattle.checks.specs.Room.{Room}
 use Rattle.reports.specs.declared.report.Sum.{Sum}
 use Rattle.reports.specs.Exchanged.{exchanged_sum}
 use Rattle.reports.specs.Summed.{sum_of, refused_sum, Reported}

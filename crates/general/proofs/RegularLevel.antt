@@ -29,7 +29,7 @@ use Rattle.checks.specs.Number.{operand_of}
 use Rattle.general.specs.declared.regular.Differ.{Differ}
 use Rattle.general.specs.declared.regular.Differ.TheVariants.{Never, First, Second}
 use Rattle.descent.specs.Course.{Course}
-use Rattle.descent.specs.Ready.{Room}
+use Rattle.checks.specs.Room.{Room}
 use Rattle.descent.specs.Level.{Level}
 use Rattle.general.specs.Differs.{Differs}
 use Rattle.reports.specs.Counts.{used_of}

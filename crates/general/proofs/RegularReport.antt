@@ -24,7 +24,7 @@ use Rattle.settle.specs.Ways.{theory_way}
 use Rattle.bridge.specs.Verdict.{pair_of}
 use Rattle.descent.specs.declared.going.Walked.{Walked}
 use Rattle.reports.specs.declared.report.Sum.{Sum}
-use Rattle.descent.specs.Ready.{Room}
+use Rattle.checks.specs.Room.{Room}
 use Rattle.descent.specs.Course.{Begun, Course, Stopped}
 use Rattle.descent.specs.Finishing.{Ending, Left}
 use Rattle.reports.specs.Signed.{Signed}

@@ -5,7 +5,7 @@ ghost use Rattle.rounding.specs.Mode.{mode_of};
 ghost use Rattle.depth.specs.Depth.{plus};
 ghost use Rattle.checks.specs.Number.{operand_of};
 ghost use Rattle.reports.specs.Summed.{Reported};
-ghost use Rattle.descent.specs.Ready.{Room};
+ghost use Rattle.checks.specs.Room.{Room};
 ghost use Rattle.descent.specs.Course.{Course};
 ghost use Rattle.descent.specs.Level.{Level};
 ghost use Rattle.general.specs.Differs.{Differs};

@@ -25,7 +25,7 @@ use Rattle.leap.proofs.Leaping.{leapt}
 use Rattle.settle.specs.declared.rows.Pair.{Pair}
 use Rattle.bridge.specs.Verdict.{pair_of, read_sum}
 use Rattle.bridge.proofs.Told.{alone_second}
-use Rattle.descent.specs.Ready.{Room}
+use Rattle.checks.specs.Room.{Room}
 use Rattle.descent.specs.Course.{Inland, Prompt}
 use Rattle.descent.proofs.GoingDown.{room_some}
 use Rattle.descent.proofs.JudgingRange.{digits_some}

@@ -1,7 +1,7 @@
 // One walk fills the target: the columns that fill it fix the answer, or those and the guard.
 ghost use Rattle.std.specs.Prelude.{◌≡◌, false, ◌-◌, ◌*◌, ◌/◌, ◌%◌, ◌^◌, ◌≤◌, ◌<◌, length};
 ghost use Rattle.limb.specs.Value.{value_of};
-ghost use Rattle.descent.specs.Ready.{Room};
+ghost use Rattle.checks.specs.Room.{Room};
 ghost use Rattle.descent.specs.Course.{Inland};
 ghost use Rattle.wide.specs.Filling.{Offered, Fills};
 ghost use Rattle.wide.specs.Guarding.{Spent};

@@ -36,7 +36,7 @@ use Rattle.bridge.specs.Verdict.{pair_of, Ordered, read_sum}
 use Rattle.bridge.proofs.Told.{pair_second}
 use Rattle.bridge.proofs.FarHole.{far_fixed, far_sum, far_difference}
 use Rattle.bridge.proofs.Covered.{columns_above}
-use Rattle.descent.specs.Ready.{Room}
+use Rattle.checks.specs.Room.{Room}
 use Rattle.descent.proofs.JudgingRange.{digits_some}
 use Rattle.descent.specs.Finishing.{Left}
 use Rattle.descent.proofs.RegularEnd.{deep_enough, rounded_signed}

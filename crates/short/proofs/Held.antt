@@ -20,7 +20,7 @@ use Rattle.bridge.specs.Verdict.{read_sum}
 use Rattle.bridge.proofs.Told.{pair_first, pair_second, pair_top}
 use Rattle.bridge.proofs.Read.{read_lead}
 use Rattle.bridge.proofs.Covered.{columns_above}
-use Rattle.descent.specs.Ready.{Room}
+use Rattle.checks.specs.Room.{Room}
 use Rattle.descent.proofs.RegularEnd.{deep_enough}
 use Rattle.wide.specs.Filling.{Holding, Offered}
 use Rattle.wide.proofs.GuardBelow.{read_held, leads_held}

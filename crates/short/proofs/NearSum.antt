@@ -36,7 +36,7 @@ use Rattle.bridge.proofs.Told.{pair_second}
 use Rattle.bridge.proofs.Decision.{decision}
 use Rattle.bridge.proofs.Answers.{exact_sum, sum_pos}
 use Rattle.bridge.proofs.Covered.{columns_above}
-use Rattle.descent.specs.Ready.{Room}
+use Rattle.checks.specs.Room.{Room}
 use Rattle.descent.specs.Course.{Inland}
 use Rattle.descent.specs.Finishing.{Left}
 use Rattle.descent.proofs.JudgingRange.{digits_some}

@@ -4,7 +4,7 @@
 ghost use Rattle.std.specs.Prelude.{◌≡◌, false, cond, [], ◌∷◌, ◌<◌, length};
 ghost use Rattle.numbers.specs.Operand.{Operand};
 ghost use Rattle.rounding.specs.Mode.{mode_of};
-ghost use Rattle.descent.specs.Ready.{Room};
+ghost use Rattle.checks.specs.Room.{Room};
 ghost use Rattle.wide.specs.Filling.{Holding, Offered};
 ghost use Rattle.wide.specs.Attempted.{Attempted};
 ghost use Rattle.short.specs.Short.{Tells};

@@ -18,7 +18,7 @@ use Rattle.checks.specs.declared.Number.{Number}
 use Rattle.checks.specs.Number.{operand_of}
 use Rattle.admission.specs.Sizes.{SizesPass}
 use Rattle.place.specs.Placed.{placed_of}
-use Rattle.descent.specs.Ready.{Room}
+use Rattle.checks.specs.Room.{Room}
 use Rattle.reports.specs.Signed.{Signed}
 use Rattle.reports.specs.Ranged.{Ranged}
 use Rattle.descent.proofs.RegularEnd.{deep_enough}

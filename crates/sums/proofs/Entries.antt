@@ -19,7 +19,7 @@ use Rattle.checks.proofs.Accepted.{accepted_well_formed, accepted_single, pair_u
 use Rattle.admission.specs.Sizes.{SizesPass}
 use Rattle.admission.proofs.Sized.{accepted_sized}
 use Rattle.reports.specs.declared.report.Sum.{Sum}
-use Rattle.descent.specs.Ready.{Room}
+use Rattle.checks.specs.Room.{Room}
 use Rattle.reports.specs.Summed.{refused_sum, sum_of, Reported, Summed, Rerounded}
 use Rattle.reports.proofs.Zeros.{zeros_reported}
 

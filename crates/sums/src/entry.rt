@@ -11,7 +11,7 @@ ghost use Rattle.place.specs.Placed.{placed_of};
 ghost use Rattle.reports.specs.Signed.{Signed};
 ghost use Rattle.reports.specs.Ranged.{Ranged};
 ghost use Rattle.reports.specs.Summed.{sum_of, Reported, Summed, Rerounded};
-ghost use Rattle.descent.specs.Ready.{Room};
+ghost use Rattle.checks.specs.Room.{Room};
 ghost use Rattle.narrow.specs.Looked.{Looked};
 
 use checks::{Number, copied};

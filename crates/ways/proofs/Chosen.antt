@@ -19,7 +19,7 @@ use Rattle.checks.specs.declared.Number.{Number}
 use Rattle.checks.specs.Number.{is_zero_kind, operand_of}
 use Rattle.place.specs.declared.Placed.{Placed}
 use Rattle.settle.specs.declared.rows.Pair.{Pair}
-use Rattle.descent.specs.Ready.{Room}
+use Rattle.checks.specs.Room.{Room}
 use Rattle.wide.specs.Filling.{Holding, Offered}
 use Rattle.wide.specs.Attempted.{Attempted}
 use Rattle.wide.proofs.FullTarget.{offered_modest}

@@ -5,7 +5,7 @@ ghost use Rattle.std.specs.Prelude.{◌≡◌, true, false, not, cond, ◌+◌, 
 ghost use Rattle.numbers.specs.Operand.{Operand, WellFormed};
 ghost use Rattle.rounding.specs.Mode.{mode_of};
 ghost use Rattle.checks.specs.Number.{operand_of};
-ghost use Rattle.descent.specs.Ready.{Room};
+ghost use Rattle.checks.specs.Room.{Room};
 ghost use Rattle.wide.specs.Filling.{Holding, Offered, FillsBy};
 ghost use Rattle.wide.specs.Attempted.{Attempted};
 ghost use Rattle.deep.specs.Deep.{Deep};

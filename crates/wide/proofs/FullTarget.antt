@@ -35,7 +35,7 @@ use Rattle.bridge.proofs.Refine.{scaled_up}
 use Rattle.bridge.proofs.Answers.{sum_pos}
 use Rattle.bridge.proofs.Covered.{columns_above}
 use Rattle.descent.specs.declared.going.Verdict.TheVariants.{Fixed}
-use Rattle.descent.specs.Ready.{Room}
+use Rattle.checks.specs.Room.{Room}
 use Rattle.descent.specs.Course.{Course, Judged, Held, Begun, Reached, Sighted, Full, Inside}
 use Rattle.descent.proofs.JudgingRange.{digits_some}
 use Rattle.descent.proofs.JudgingRows.{pair_modest}

@@ -42,7 +42,7 @@ use Rattle.bridge.proofs.Decision.{decision}
 use Rattle.bridge.proofs.Answers.{tests_are}
 use Rattle.bridge.proofs.Theorems.{row_sum, leads_later}
 use Rattle.bridge.proofs.Covered.{columns_above}
-use Rattle.descent.specs.Ready.{Room}
+use Rattle.checks.specs.Room.{Room}
 use Rattle.descent.specs.Course.{Inside, Inland, Prompt, Sighted}
 use Rattle.descent.proofs.JudgingRange.{digits_some}
 use Rattle.descent.proofs.GoingDown.{room_some}

@@ -34,7 +34,7 @@ use Rattle.bridge.specs.Verdict.{pair_of, Ordered, read_sum}
 use Rattle.bridge.proofs.Read.{read_lead, read_some}
 use Rattle.bridge.proofs.FarHole.{far_fixed, far_sum, far_difference}
 use Rattle.bridge.proofs.Covered.{columns_above}
-use Rattle.descent.specs.Ready.{Room}
+use Rattle.checks.specs.Room.{Room}
 use Rattle.descent.specs.Course.{Prompt, Sighted}
 use Rattle.descent.proofs.JudgingRange.{digits_some}
 use Rattle.descent.proofs.GoingDown.{room_some}

@@ -35,7 +35,7 @@ use Rattle.bridge.specs.Verdict.{pair_of, Ordered}
 use Rattle.bridge.proofs.Told.{pair_gap, pair_same, pair_top, top_is}
 use Rattle.bridge.proofs.Decision.{leads}
 use Rattle.bridge.proofs.Covered.{columns_above}
-use Rattle.descent.specs.Ready.{Room}
+use Rattle.checks.specs.Room.{Room}
 use Rattle.descent.specs.Course.{Course}
 use Rattle.descent.specs.Finishing.{Left}
 use Rattle.reports.specs.Signed.{Signed}

@@ -4,7 +4,7 @@ ghost use Rattle.remnant.specs.Digits.{ShowsDigits};
 ghost use Rattle.walk.specs.Window.{Shows};
 ghost use Rattle.walk.specs.declared.state.Window.{Window};
 ghost use Rattle.settle.specs.Rows.{Modest};
-ghost use Rattle.descent.specs.Ready.{Room};
+ghost use Rattle.checks.specs.Room.{Room};
 ghost use Rattle.descent.specs.Course.{Full, Inside};
 ghost use Rattle.wide.specs.Filling.{Offered, Promptly, Fills};
 

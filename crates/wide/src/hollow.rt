@@ -7,7 +7,7 @@
 ghost use Rattle.std.specs.Prelude.{◌≡◌, true, ◌&&◌, suc, ◌*◌, ◌<◌, leb, length};
 ghost use Rattle.limb.specs.Value.{value_of};
 ghost use Rattle.columns.specs.Column.{read_to};
-ghost use Rattle.descent.specs.Ready.{Room};
+ghost use Rattle.checks.specs.Room.{Room};
 ghost use Rattle.wide.specs.Filling.{Offered, Fills};
 ghost use Rattle.wide.specs.Covering.{Covers};
 

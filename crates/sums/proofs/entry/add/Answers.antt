@@ -8,7 +8,7 @@ use lib.ListN.{length}
 use borrow.Author.Tests.{not-true}
 use Rattle.numbers.specs.Operand.{WellFormed}
 use Rattle.checks.specs.Number.{operand_of}
-use Rattle.descent.specs.Ready.{Room}
+use Rattle.checks.specs.Room.{Room}
 use Rattle.deep.proofs.FillingTarget.{one_limb}
 use Rattle.sums.proofs.AtOnce.{plain_like, looked_ranged, copies_sized, copies_unsized, copies_summed}
 use Rattle.sums.proofs.Entries.{kind_told, accepted_ready, accepted_reported}

@@ -7,7 +7,7 @@ use lib.ListN.{length}
 use borrow.Author.Tests.{not-true}
 use Rattle.numbers.specs.Operand.{WellFormed}
 use Rattle.checks.specs.Number.{operand_of}
-use Rattle.descent.specs.Ready.{Room}
+use Rattle.checks.specs.Room.{Room}
 use Rattle.deep.proofs.FillingTarget.{one_limb}
 use Rattle.sums.proofs.AtOnce.{looked_ranged, attempted_ranged, attempted_reported, copies_ready, copies_reported}
 use Rattle.sums.proofs.Entries.{kind_told, pair_ready, pair_refused, pair_reported}

@@ -1,9 +1,0 @@
--- What checks 1 to 5 leave: a mode, well-formed operands, a target of its limbs. Definitions only.
-use Rattle.std.specs.Prelude.{ℕ, ◌≤◌, ◌≡◌}
-use Rattle.numbers.specs.Limits.{least_precision, most_precision, limbs_for}
-
--- the target has p digits and as many limbs as they take
-pub record Room (p n : ℕ) : Type 0 where
-  pub least : least_precision ≤ p
-  pub most : p ≤ most_precision
-  pub count : n ≡ limbs_for p
