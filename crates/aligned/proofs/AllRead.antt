@@ -16,7 +16,8 @@ use Rattle.numbers.specs.Limits.{most_precision, limbs_for}
 use Rattle.numbers.specs.Operand.{Operand}
 use Rattle.numbers.proofs.Digits.{precision_two}
 use Rattle.numbers.proofs.Limits.{limbs_hold, limbs_fewest}
-use Rattle.rounding.specs.Mode.{Mode, way}
+use Rattle.rounding.specs.Mode.{way}
+use Rattle.rounding.specs.declared.Mode.{Mode}
 use Rattle.rounding.specs.Answer.{rounded}
 use Rattle.rounding.specs.Sum.{add}
 use Rattle.depth.specs.Bound.{deepest}

@@ -11,7 +11,7 @@ use Rattle.limb.specs.Value.{value_of, Below}
 use Rattle.fused.specs.Fused.{SumOf}
 use Rattle.numbers.specs.Limits.{counted, least_exponent, most_exponent, bias}
 use Rattle.numbers.specs.Operand.{Operand, WellFormed}
-use Rattle.rounding.specs.Mode.{Mode}
+use Rattle.rounding.specs.declared.Mode.{Mode}
 use Rattle.rounding.proofs.Order.{le_or_lt}
 use Rattle.checks.specs.declared.Number.{Number}
 use Rattle.checks.specs.Number.{operand_of}

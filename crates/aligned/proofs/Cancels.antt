@@ -8,7 +8,7 @@ use lib.IntN.{pos}
 use lib.ListN.{length, drop, replicate}
 use Rattle.limb.specs.Value.{value_of}
 use Rattle.numbers.specs.Operand.{Operand}
-use Rattle.rounding.specs.Mode.{Mode}
+use Rattle.rounding.specs.declared.Mode.{Mode}
 use Rattle.rounding.specs.Answer.{Answer, zero_of}
 use Rattle.rounding.specs.Sum.{zero_sign}
 use Rattle.place.specs.declared.Placed.{Placed}

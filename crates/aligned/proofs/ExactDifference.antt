@@ -19,7 +19,8 @@ use Rattle.numbers.specs.Limbs.{limbs_of}
 use Rattle.numbers.specs.Operand.{Operand, spare_bits}
 use Rattle.numbers.proofs.Limits.{limbs_hold}
 use Rattle.numbers.proofs.Digits.{limbs_count, limbs_below, limbs_value, digits_and_spare}
-use Rattle.rounding.specs.Mode.{Mode, Way, way}
+use Rattle.rounding.specs.Mode.{Way, way}
+use Rattle.rounding.specs.declared.Mode.{Mode}
 use Rattle.rounding.specs.Answer.{number, digits}
 use Rattle.rounding.specs.Paper.{Rep, Written}
 use Rattle.rounding.specs.Sum.{add}

@@ -16,7 +16,7 @@ use Rattle.limb.specs.Carry.{bit}
 use Rattle.limb.proofs.Tests.{true_false, both_true, and_both, zero_times}
 use Rattle.numbers.specs.Limits.{least_exponent}
 use Rattle.numbers.specs.Operand.{Operand}
-use Rattle.rounding.specs.Mode.{Mode}
+use Rattle.rounding.specs.declared.Mode.{Mode}
 use Rattle.rounding.proofs.Order.{le_or_lt}
 use Rattle.checks.specs.declared.Number.{Number}
 use Rattle.checks.specs.Number.{operand_of}

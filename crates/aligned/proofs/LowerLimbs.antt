@@ -14,7 +14,8 @@ use Rattle.limb.specs.Carry.{bit}
 use Rattle.limb.proofs.Value.{value_take, value_nil, one_written}
 use Rattle.numbers.specs.Limits.{least_precision, most_precision, most_exponent, limbs_for}
 use Rattle.numbers.specs.Operand.{Operand}
-use Rattle.rounding.specs.Mode.{Mode, mode_of, way}
+use Rattle.rounding.specs.Mode.{way}
+use Rattle.rounding.specs.declared.Mode.{Mode}
 use Rattle.rounding.specs.Answer.{rounded}
 use Rattle.rounding.specs.Sum.{add, zero_sign}
 use Rattle.decide.specs.Decide.{decide_at}
@@ -98,9 +99,9 @@ module _ (x y : Operand) (u v top : ℕ) (l : Lower x y u v top) where
 
 -- ---- the larger one first
 
-module _ (mode p : ℕ) (room : Room p 1) (x y : Operand) (u v top : ℕ) (l : Lower x y u v top) (less : v < u) where
+module _ (mode : Mode) (p : ℕ) (room : Room p 1) (x y : Operand) (u v top : ℕ) (l : Lower x y u v top) (less : v < u) where
   abbrev o : Mode
-  o = mode_of mode
+  o = mode
 
   abbrev t : List ℕ
   t = (u - v) ∷ []
@@ -171,9 +172,9 @@ nothing_left : (u v : ℕ) (s : Bool) {i j : ℕ} → s ≡ ltb u v → i ≡ co
 nothing_left u v true e f g h = absurd (omega (arith, ltb-true u v (sym e)))
 nothing_left u v false e f g h = omega (arith, ltb-false u v (sym e))
 
-module _ (mode p top u v : ℕ) (t : List ℕ) (room : Room p (length t)) (one : length t ≡ 1) (s : Bool) (s_is : s ≡ ltb u v) {i j : ℕ} (i_is : i ≡ cond s v u) (j_is : j ≡ cond s u v) where
+module _ (mode : Mode) (p top u v : ℕ) (t : List ℕ) (room : Room p (length t)) (one : length t ≡ 1) (s : Bool) (s_is : s ≡ ltb u v) {i j : ℕ} (i_is : i ≡ cond s v u) (j_is : j ≡ cond s u v) where
   abbrev m : Mode
-  m = mode_of mode
+  m = mode
 
   one_room : Room p 1
   one_room = subst (Room p) one room

@@ -12,7 +12,8 @@ use lib.Pow.{pow-add}
 use Rattle.limb.specs.Carry.{bit}
 use Rattle.numbers.specs.Limits.{least_precision, most_precision, most_exponent, limbs_for}
 use Rattle.numbers.specs.Operand.{Operand}
-use Rattle.rounding.specs.Mode.{Mode, mode_of, way}
+use Rattle.rounding.specs.Mode.{way}
+use Rattle.rounding.specs.declared.Mode.{Mode}
 use Rattle.rounding.specs.Answer.{rounded}
 use Rattle.rounding.specs.Sum.{add}
 use Rattle.place.specs.declared.Placed.{Placed}
@@ -30,9 +31,9 @@ use Rattle.wide.specs.Attempted.{Attempted}
 use Rattle.aligned.specs.Aligned.{Aligned, Standing}
 use Rattle.aligned.proofs.AllRead.{some, limbs_few, leads_all, answer, covered_told}
 
-module _ (mode p : ℕ) (x y : Operand) (t : List ℕ) (carry : Bool) (z top : ℕ) (s : Standing p x y t carry z top) where
+module _ (mode : Mode) (p : ℕ) (x y : Operand) (t : List ℕ) (carry : Bool) (z top : ℕ) (s : Standing p x y t carry z top) where
   abbrev o : Mode
-  o = mode_of mode
+  o = mode
 
   abbrev n : ℕ
   n = length t

@@ -7,7 +7,6 @@
 ghost use Rattle.std.specs.Prelude.{◌≡◌, false, cond, ◌&&◌, ℕ, ◌-◌, ◌*◌, ◌/◌, ◌^◌, ◌≤◌, leb, length};
 ghost use Rattle.std.specs.Bool.{beq};
 ghost use Rattle.limb.specs.Value.{value_of};
-ghost use Rattle.rounding.specs.Mode.{mode_of};
 ghost use Rattle.checks.specs.Number.{operand_of};
 ghost use Rattle.twolimbs.specs.Two.{head_in};
 ghost use Rattle.checks.specs.Room.{Room};
@@ -18,6 +17,7 @@ ghost use Rattle.aligned.specs.Few.{Few, AbsoluteDifference};
 use crate::cancelled;
 use checks::Number;
 use place::Placed;
+use rounding::Mode;
 use twolimbs::Head;
 use wide::{Attempt, nothing};
 
@@ -93,7 +93,7 @@ pub fn are_few(first: u64, second: u64, p: u64, n: usize) -> bool
 
 // Two operands of unlike signs. Left open where a refusal is near.
 pub fn subtract(
-    mode: u8,
+    mode: Mode,
     x: Number,
     xl: &[u64],
     y: Number,
@@ -102,7 +102,7 @@ pub fn subtract(
     target: &mut [u64],
 ) -> Attempt
     requires { Few (length target.old) × Aligned (operand_of x xl.now) (operand_of y yl.now) (length target.old) × (beq x.negative y.negative ≡ false) × (top ≡ (operand_of x xl.now).exponent) }
-    ensures { (length target.new ≡ length target.old) × (result.open ≡ false → (p : ℕ) → Room p (length target.old) → x.precision ≤ p → y.precision ≤ p → Attempted (mode_of mode) p (operand_of x xl.now) (operand_of y yl.now) target.new result.negative result.placed result.depth result.first result.second) }
+    ensures { (length target.new ≡ length target.old) × (result.open ≡ false → (p : ℕ) → Room p (length target.old) → x.precision ≤ p → y.precision ≤ p → Attempted mode p (operand_of x xl.now) (operand_of y yl.now) target.new result.negative result.placed result.depth result.first result.second) }
 {
     let n = target.len() as u64;
     if bounds::is_low(top, n) {

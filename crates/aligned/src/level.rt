@@ -6,18 +6,18 @@
 //
 ghost use Rattle.std.specs.Prelude.{◌≡◌, false, length};
 ghost use Rattle.numbers.specs.Operand.{Operand};
-ghost use Rattle.rounding.specs.Mode.{mode_of};
 ghost use Rattle.checks.specs.Room.{Room};
 ghost use Rattle.wide.specs.Attempted.{Attempted};
 ghost use Rattle.aligned.specs.Lower.{Lower, Lowered};
 
 use choice::either;
 use place::Placed;
+use rounding::Mode;
 use wide::Attempt;
 
 // What the lower limbs leave of a difference, rounded to a target of one limb: no column but the second fixes it.
 pub fn subtract_lower(
-    mode: u8,
+    mode: Mode,
     negative: bool,
     p: u64,
     top: u64,
@@ -26,7 +26,7 @@ pub fn subtract_lower(
     target: &mut [u64],
 ) -> Attempt
     requires { Room p (length target.old) × (length target.old ≡ 1) × Lowered u v top }
-    ensures { (result.open ≡ false) × (length target.new ≡ length target.old) × ((x y : Operand) → Lower x y u v top → negative ≡ x.negative → Attempted (mode_of mode) p x y target.new result.negative result.placed result.depth result.first result.second) }
+    ensures { (result.open ≡ false) × (length target.new ≡ length target.old) × ((x y : Operand) → Lower x y u v top → negative ≡ x.negative → Attempted mode p x y target.new result.negative result.placed result.depth result.first result.second) }
 {
     let swapped = u < v;
     let d = either(swapped, u, v) - either(swapped, v, u);

@@ -11,7 +11,7 @@ ghost use Rattle.std.specs.Prelude.{◌≡◌, false, cond, ℕ, ◌+◌, ◌-�
 ghost use Rattle.std.specs.Bool.{beq};
 ghost use Rattle.limb.specs.Value.{value_of};
 ghost use Rattle.numbers.specs.Operand.{Operand, WellFormed};
-ghost use Rattle.rounding.specs.Mode.{mode_of};
+ghost use Rattle.rounding.specs.declared.Mode.{Mode};
 ghost use Rattle.checks.specs.Number.{operand_of};
 ghost use Rattle.place.specs.Placed.{run_rule};
 ghost use Rattle.checks.specs.Room.{Room};
@@ -25,6 +25,7 @@ use checks::Number;
 use choice::either_run;
 pub use level::subtract_lower;
 use place::Placed;
+use rounding::Mode;
 use wide::{Attempt, nothing};
 
 // How many limbs at the top of two runs of one length are alike.
@@ -74,7 +75,7 @@ fn subtract_in_order<'a>(target: &mut [u64], z: usize, swapped: bool, a: &'a [u6
 
 // Rounds what stands in the target: all of a sum, moved up by so many columns.
 fn round_whole(
-    mode: u8,
+    mode: Mode,
     negative: bool,
     carry: bool,
     skipped: u64,
@@ -83,7 +84,7 @@ fn round_whole(
     target: &mut [u64],
 ) -> Attempt
     requires { (64 * (length target.old + skipped + 1) ≤ top) × (run_rule p carry target.old (top - 64 * (length target.old + skipped + 1)) ≡ 0) }
-    ensures { (length target.new ≡ length target.old) × (result.second ≡ result.first) × ((x y : Operand) → Standing p x y target.old carry skipped top → negative ≡ x.negative → Attempted (mode_of mode) p x y target.new result.negative result.placed result.depth result.first result.second) }
+    ensures { (length target.new ≡ length target.old) × (result.second ≡ result.first) × ((x y : Operand) → Standing p x y target.old carry skipped top → negative ≡ x.negative → Attempted mode p x y target.new result.negative result.placed result.depth result.first result.second) }
 {
     let n = target.len() as u64;
     let placed = place::round_fit(
@@ -109,7 +110,7 @@ fn round_whole(
 // The same for a difference of which nothing lies below the digits kept, whatever the mode.
 fn settle_whole(negative: bool, skipped: u64, top: u64, p: u64, target: &mut [u64]) -> Attempt
     requires { (64 * (length target.old + skipped + 1) ≤ top) × (run_rule p false target.old (top - 64 * (length target.old + skipped + 1)) ≡ 0) × (value_of target.old % 2 ^ (64 * length target.old - p) ≡ 0) }
-    ensures { (length target.new ≡ length target.old) × (result.second ≡ result.first) × ((mode : ℕ) (x y : Operand) → Standing p x y target.old false skipped top → negative ≡ x.negative → Attempted (mode_of mode) p x y target.new result.negative result.placed result.depth result.first result.second) }
+    ensures { (length target.new ≡ length target.old) × (result.second ≡ result.first) × ((mode : Mode) (x y : Operand) → Standing p x y target.old false skipped top → negative ≡ x.negative → Attempted mode p x y target.new result.negative result.placed result.depth result.first result.second) }
 {
     let n = target.len() as u64;
     let unit = top - 64 * (n + skipped + 1);
@@ -125,8 +126,8 @@ fn settle_whole(negative: bool, skipped: u64, top: u64, p: u64, target: &mut [u6
 }
 
 // All limbs are alike: a zero, with no limb left unread.
-fn cancelled(mode: u8, a: bool, b: bool, target: &mut [u64]) -> Attempt
-    ensures { (length target.new ≡ length target.old) × ((p : ℕ) (x y : Operand) → Room p (length target.old) → Cancelling x y (length target.old) → a ≡ x.negative → b ≡ y.negative → Attempted (mode_of mode) p x y target.new result.negative result.placed result.depth result.first result.second) }
+fn cancelled(mode: Mode, a: bool, b: bool, target: &mut [u64]) -> Attempt
+    ensures { (length target.new ≡ length target.old) × ((p : ℕ) (x y : Operand) → Room p (length target.old) → Cancelling x y (length target.old) → a ≡ x.negative → b ≡ y.negative → Attempted mode p x y target.new result.negative result.placed result.depth result.first result.second) }
 {
     let n = target.len() as u64;
     parts::clear(target);
@@ -147,7 +148,7 @@ fn cancelled(mode: u8, a: bool, b: bool, target: &mut [u64]) -> Attempt
 
 // Two operands of unlike signs. Left open where a refusal is near, and where a borrow empties the target's top limb.
 fn subtract<'a>(
-    mode: u8,
+    mode: Mode,
     x: Number,
     xl: &'a [u64],
     y: Number,
@@ -157,7 +158,7 @@ fn subtract<'a>(
     target: &mut [u64],
 ) -> Attempt
     requires { Room p (length target.old) × Aligned (operand_of x xl.now) (operand_of y yl.now) (length target.old) × (beq x.negative y.negative ≡ false) × (top ≡ (operand_of x xl.now).exponent) }
-    ensures { (length target.new ≡ length target.old) × (result.open ≡ false → Attempted (mode_of mode) p (operand_of x xl.now) (operand_of y yl.now) target.new result.negative result.placed result.depth result.first result.second) }
+    ensures { (length target.new ≡ length target.old) × (result.open ≡ false → Attempted mode p (operand_of x xl.now) (operand_of y yl.now) target.new result.negative result.placed result.depth result.first result.second) }
 {
     let n = target.len();
     if bounds::is_low(top, n as u64) {
@@ -180,7 +181,7 @@ fn subtract<'a>(
 
 // Two operands of unlike signs: one or two limbs by value where all digits of the difference are kept, else limb by limb.
 fn subtract_any<'a>(
-    mode: u8,
+    mode: Mode,
     x: Number,
     xl: &'a [u64],
     y: Number,
@@ -190,7 +191,7 @@ fn subtract_any<'a>(
     target: &mut [u64],
 ) -> Attempt
     requires { Room p (length target.old) × Aligned (operand_of x xl.now) (operand_of y yl.now) (length target.old) × (beq x.negative y.negative ≡ false) × (top ≡ (operand_of x xl.now).exponent) }
-    ensures { (length target.new ≡ length target.old) × (result.open ≡ false → Attempted (mode_of mode) p (operand_of x xl.now) (operand_of y yl.now) target.new result.negative result.placed result.depth result.first result.second) }
+    ensures { (length target.new ≡ length target.old) × (result.open ≡ false → Attempted mode p (operand_of x xl.now) (operand_of y yl.now) target.new result.negative result.placed result.depth result.first result.second) }
 {
     if few::are_few(x.precision, y.precision, p, target.len()) {
         return few::subtract(mode, x, xl, y, yl, top, target);
@@ -200,7 +201,7 @@ fn subtract_any<'a>(
 
 // Adds two regular numbers of one exponent that have as many limbs as the target.
 pub fn attempt<'a>(
-    mode: u8,
+    mode: Mode,
     x: Number,
     xl: &'a [u64],
     y: Number,
@@ -209,7 +210,7 @@ pub fn attempt<'a>(
     target: &mut [u64],
 ) -> Attempt
     requires { WellFormed (operand_of x xl.now) × ((operand_of x xl.now).is_zero ≡ false) × WellFormed (operand_of y yl.now) × ((operand_of y yl.now).is_zero ≡ false) × (x.exponent ≡ y.exponent) × (length xl.now ≡ length target.old) × (length yl.now ≡ length target.old) × Room p (length target.old) }
-    ensures { (length target.new ≡ length target.old) × (result.open ≡ false → Attempted (mode_of mode) p (operand_of x xl.now) (operand_of y yl.now) target.new result.negative result.placed result.depth result.first result.second) }
+    ensures { (length target.new ≡ length target.old) × (result.open ≡ false → Attempted mode p (operand_of x xl.now) (operand_of y yl.now) target.new result.negative result.placed result.depth result.first result.second) }
 {
     let top = checks::counted_exponent(x.exponent);
     if x.negative != y.negative {

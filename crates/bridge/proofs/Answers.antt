@@ -10,7 +10,8 @@ use lib.Pow.{pow_pos}
 use Rattle.decide.proofs.Answered.{settled_enough}
 use Rattle.limb.specs.Carry.{bit}
 use Rattle.numbers.specs.Operand.{Operand}
-use Rattle.rounding.specs.Mode.{Mode, Way, way, near, under, over}
+use Rattle.rounding.specs.Mode.{Way, way, near, under, over}
+use Rattle.rounding.specs.declared.Mode.{Mode}
 use Rattle.rounding.specs.Answer.{zero_of, too_large, too_small, rounded}
 use Rattle.rounding.specs.Sum.{scale, zero_sign, add}
 use Rattle.rounding.proofs.Order.{le_or_lt, mul_one_one, size_mono, sub_mul}

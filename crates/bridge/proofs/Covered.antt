@@ -15,7 +15,8 @@ use Rattle.limb.proofs.Tests.{both_true}
 use Rattle.limb.specs.Carry.{bit}
 use Rattle.numbers.specs.Limits.{most_precision, bias, least_exponent}
 use Rattle.numbers.specs.Operand.{Operand, WellFormed}
-use Rattle.rounding.specs.Mode.{Mode, Way, way, near, under, over}
+use Rattle.rounding.specs.Mode.{Way, way, near, under, over}
+use Rattle.rounding.specs.declared.Mode.{Mode}
 use Rattle.rounding.proofs.Order.{le_or_lt}
 use Rattle.depth.specs.Bound.{columns_for, far_columns, deepest}
 use Rattle.decide.specs.Class.{off, lean, alike, enough, settled}

@@ -5,7 +5,7 @@ use mathlib.Core.Bool.{Bool, true, false, not}
 use Prim.Native.Nat.{ℕ, zero, suc, ◌+◌, ◌-◌, ◌*◌, ◌≤◌, ◌<◌}
 use native.Mathlib.Omega.{arith}
 use Rattle.numbers.specs.Operand.{Operand, mantissa}
-use Rattle.rounding.specs.Mode.{Mode}
+use Rattle.rounding.specs.declared.Mode.{Mode}
 use Rattle.rounding.proofs.Order.{le_or_lt, zero_or}
 use Rattle.decide.specs.Table.{some?, all_read, hole_by_size}
 use Rattle.decide.specs.Decide.{decide_at}

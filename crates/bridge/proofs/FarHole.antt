@@ -6,7 +6,8 @@ use native.Mathlib.Omega.{arith}
 use borrow.Author.Tests.{lt-ltb, ne_eqb}
 use lib.Dec.{eqb}
 use Rattle.numbers.specs.Operand.{Operand, mantissa}
-use Rattle.rounding.specs.Mode.{Mode, Way, near, under, over, way}
+use Rattle.rounding.specs.Mode.{Way, near, under, over, way}
+use Rattle.rounding.specs.declared.Mode.{Mode}
 use Rattle.rounding.specs.Answer.{rounded}
 use Rattle.rounding.specs.Sum.{add}
 use Rattle.decide.specs.Table.{hole?}

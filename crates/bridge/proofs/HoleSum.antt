@@ -12,7 +12,8 @@ use lib.Ieee.{size}
 use Rattle.limb.proofs.Tests.{both_true}
 use Rattle.numbers.specs.Operand.{Operand, mantissa, last_weight}
 use Rattle.numbers.proofs.Digits.{mantissa_lt, mantissa_ge, precision_two}
-use Rattle.rounding.specs.Mode.{Mode, Way, way, near, under, over}
+use Rattle.rounding.specs.Mode.{Way, way, near, under, over}
+use Rattle.rounding.specs.declared.Mode.{Mode}
 use Rattle.rounding.specs.Answer.{rounded, answer}
 use Rattle.rounding.specs.Sum.{scale, share, amount, zero_sign, sum_at, add}
 use Rattle.rounding.proofs.Order.{le_or_lt, mul_one_one}

@@ -15,7 +15,8 @@ use Rattle.limb.proofs.Value.{value_drop}
 use Rattle.numbers.specs.Limits.{limbs_for}
 use Rattle.numbers.specs.Operand.{Operand, mantissa, spare_bits, WellFormed}
 use Rattle.numbers.proofs.Limits.{limbs_fewest}
-use Rattle.rounding.specs.Mode.{Mode, way}
+use Rattle.rounding.specs.Mode.{way}
+use Rattle.rounding.specs.declared.Mode.{Mode}
 use Rattle.decide.specs.Table.{some?, odd?, hole?, hole_by_size}
 use Rattle.decide.specs.Decide.{decide_at}
 use Rattle.settle.specs.Rows.{row_of}

@@ -15,7 +15,8 @@ use Rattle.columns.proofs.Reading.{read_early}
 use Rattle.rounding.proofs.Order.{zero_or}
 use Rattle.numbers.specs.Operand.{Operand, mantissa, last_weight}
 use Rattle.numbers.proofs.Digits.{precision_two}
-use Rattle.rounding.specs.Mode.{Mode, Way, way}
+use Rattle.rounding.specs.Mode.{Way, way}
+use Rattle.rounding.specs.declared.Mode.{Mode}
 use Rattle.rounding.specs.Answer.{too_large, too_small}
 use Rattle.rounding.specs.Sum.{scale, amount, zero_sign}
 use Rattle.depth.specs.Columns.{top_exponent}

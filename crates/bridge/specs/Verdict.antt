@@ -2,7 +2,8 @@
 use Rattle.std.specs.Prelude.{ℕ, ◌+◌, ◌-◌, ◌*◌, ◌≤◌, ◌<◌, ◌≡◌, Bool, true, false, not, cond, ◌&&◌, ◌||◌, ltb, eqb}
 use Rattle.limb.specs.Carry.{bit}
 use Rattle.numbers.specs.Operand.{Operand, mantissa, WellFormed}
-use Rattle.rounding.specs.Mode.{Mode, Way, way, near, under, over}
+use Rattle.rounding.specs.Mode.{Way, way, near, under, over}
+use Rattle.rounding.specs.declared.Mode.{Mode}
 use Rattle.decide.specs.Class.{settled}
 use Rattle.decide.specs.Range.{large?, small?}
 use Rattle.decide.specs.Table.{hole_by_size}

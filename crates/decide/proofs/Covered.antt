@@ -10,7 +10,8 @@ use lib.Pow.{pow_pos, pow_mono, pow-add}
 use Rattle.rounding.proofs.Units.{scale_first, scale_second}
 use Rattle.depth.proofs.Exchange.{top_exchange, first_some}
 use Rattle.numbers.specs.Operand.{Operand, last_weight, WellFormed}
-use Rattle.rounding.specs.Mode.{Mode, Way, way}
+use Rattle.rounding.specs.Mode.{Way, way}
+use Rattle.rounding.specs.declared.Mode.{Mode}
 use Rattle.rounding.specs.Answer.{Answer, too_large, too_small, rounded, answer}
 use Rattle.rounding.specs.Sum.{scale, amount, zero_sign, add}
 use Rattle.rounding.proofs.Order.{le_or_lt, Cmp, cmp, sub_mul}

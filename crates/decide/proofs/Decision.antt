@@ -10,7 +10,7 @@ use lib.Dec.{ltb}
 use Rattle.rounding.proofs.Units.{scale_first, scale_second}
 use Rattle.depth.proofs.Exchange.{top_exchange, first_some}
 use Rattle.numbers.specs.Operand.{Operand, mantissa, last_weight, WellFormed}
-use Rattle.rounding.specs.Mode.{Mode}
+use Rattle.rounding.specs.declared.Mode.{Mode}
 use Rattle.rounding.specs.Answer.{Answer}
 use Rattle.rounding.specs.Sum.{scale, share, amount, zero_sign, add}
 use Rattle.depth.specs.Columns.{top_exponent, Like}

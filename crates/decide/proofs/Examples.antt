@@ -11,7 +11,8 @@ use Rattle.limb.proofs.Value.{one_below}
 use Rattle.limb.specs.Value.{value_in, Below}
 use Rattle.numbers.specs.Limits.{least_precision, most_precision, bias, least_exponent, most_exponent, limbs_for}
 use Rattle.numbers.specs.Operand.{spare_bits, mantissa, last_weight, WellFormed}
-use Rattle.rounding.specs.Mode.{Mode, nearest, upward, Way, way}
+use Rattle.rounding.specs.Mode.{Way, way}
+use Rattle.rounding.specs.declared.Mode.{Mode}
 use Rattle.rounding.specs.Select.{chosen}
 use Rattle.rounding.specs.Answer.{too_large, number, digits, signed, rounded, answer}
 use Rattle.rounding.specs.Sum.{scale, amount, share, zero_sign, sum_at, add}
@@ -19,6 +20,7 @@ use Rattle.rounding.proofs.Between.{is_large}
 use Rattle.rounding.proofs.Ends.{plus as positive}
 use Rattle.rounding.proofs.Selection.{Rep}
 use Rattle.rounding.proofs.Scale.{exact}
+use Rattle.rounding.specs.declared.Mode.TheVariants.{Nearest, Upward}
 use Rattle.depth.specs.Columns.{top_exponent, limbs_used}
 use Rattle.depth.specs.Read.{unread}
 use Rattle.depth.specs.Depth.{plus, Deciding}
@@ -84,11 +86,11 @@ only_one : {A : Type 0} → 1 < 1 → A
 only_one h = absurd (omega arith)
 
 -- "With m = 128 the depth is 2, for a carry may still come; with m = 64 it is 1, for one number alone carries nothing."
-pub example_short : Deciding plus nearest 2 short next 1
-example_short = depth_decided nearest 2 (lit< tt) short next short_good next_good 1 (lit≤ tt) corners.0 only_one
+pub example_short : Deciding plus Nearest 2 short next 1
+example_short = depth_decided Nearest 2 (lit< tt) short next short_good next_good 1 (lit≤ tt) corners.0 only_one
 
-pub example_long : Deciding plus nearest 2 long next 2
-example_long = depth_decided nearest 2 (lit< tt) long next long_good next_good 2 (lit≤ tt) corners.2 (λ u. corners.1)
+pub example_long : Deciding plus Nearest 2 long next 2
+example_long = depth_decided Nearest 2 (lit< tt) long next long_good next_good 2 (lit≤ tt) corners.2 (λ u. corners.1)
 
 -- "10 | 0.10×2^M + 0.10×2^M, M = 2^30 - 1 | refused 6, depth 1", under every mode and target
 most_good : WellFormed (half top)
@@ -117,8 +119,8 @@ ten_answer o p P = whole ∙ positive false o p (top - 2) P 4 0 (lit< tt) ∙ re
     refused w = unfold rounded in is_large (size (chosen w p 4) + (top - 2)) (number false (size (chosen w p 4) + (top - 2)) (digits p (chosen w p 4)) (signed false (compare (chosen w p 4) 4))) (rw (exact w p 4 P one) high)
 
 -- "13 | 0.10 + 0.10×2^-1000000, 62, up | .. depth 1, limbs 1 and 0"
-pub thirteen_depth : Deciding plus upward 62 (half mid) (half (mid - 1000000)) 1
-thirteen_depth = depth_decided upward 62 (lit< tt) (half mid) (half (mid - 1000000)) (half_good mid (unfold least_exponent bias in lit≤ tt) (unfold most_exponent bias in lit≤ tt)) (half_good (mid - 1000000) (unfold least_exponent bias in lit≤ tt) (unfold most_exponent bias in lit≤ tt)) 1 (lit≤ tt) corners.15 only_one
+pub thirteen_depth : Deciding plus Upward 62 (half mid) (half (mid - 1000000)) 1
+thirteen_depth = depth_decided Upward 62 (lit< tt) (half mid) (half (mid - 1000000)) (half_good mid (unfold least_exponent bias in lit≤ tt) (unfold most_exponent bias in lit≤ tt)) (half_good (mid - 1000000) (unfold least_exponent bias in lit≤ tt) (unfold most_exponent bias in lit≤ tt)) 1 (lit≤ tt) corners.15 only_one
 
 pub thirteen_limbs : (limbs_used mid 1 (half mid) ≡ 1) × (limbs_used mid 1 (half (mid - 1000000)) ≡ 0)
 unfolding limbs_used limbs_for bias

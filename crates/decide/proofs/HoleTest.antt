@@ -11,7 +11,8 @@ use lib.Pow.{pow_pos, pow-add}
 use lib.Ieee.{size}
 use lib.Ieee.Digits.{size-lt, size_reaches}
 use Rattle.limb.proofs.Tests.{and_both}
-use Rattle.rounding.specs.Mode.{Mode, way, Way, near, under, over}
+use Rattle.rounding.specs.Mode.{way, Way, near, under, over}
+use Rattle.rounding.specs.declared.Mode.{Mode}
 use Rattle.numbers.specs.Limits.{least_exponent, most_exponent}
 use Rattle.rounding.proofs.Order.{le_or_lt, cmp, compare_at, size_mono, zero_or}
 use Rattle.limb.proofs.Sizes.{size_is, size_part}

@@ -9,7 +9,8 @@ use borrow.Author.Tests.{ltb-true, ltb-false}
 use lib.Dec.{ltb}
 use lib.Pow.{pow_pos}
 use lib.Ieee.{size}
-use Rattle.rounding.specs.Mode.{Mode, Way, way}
+use Rattle.rounding.specs.Mode.{Way, way}
+use Rattle.rounding.specs.declared.Mode.{Mode}
 use Rattle.rounding.specs.Answer.{Answer, zero_of, rounded, answer}
 use Rattle.numbers.specs.Limits.{least_exponent, most_exponent}
 use Rattle.rounding.proofs.Order.{Cmp, cmp, compare_at, size_mono, zero_or, sub_mul}

@@ -3,7 +3,8 @@ use Rattle.std.specs.Prelude.{ℕ, ◌+◌, ◌-◌, ◌*◌, ◌/◌, ◌%◌, 
 use Rattle.std.specs.Bool.{beq}
 use Rattle.std.specs.Float.Ieee.{size}
 use Rattle.numbers.specs.Operand.{Operand, last_weight}
-use Rattle.rounding.specs.Mode.{Mode, way, Way}
+use Rattle.rounding.specs.Mode.{way, Way}
+use Rattle.rounding.specs.declared.Mode.{Mode}
 use Rattle.rounding.specs.Answer.{Answer, zero_of, number, rounded, too_large, too_small, ranged, signed}
 use Rattle.rounding.specs.Sum.{scale, zero_sign}
 use Rattle.depth.specs.Columns.{top_exponent}

@@ -1,7 +1,7 @@
 -- The decision on two operands after k columns. Definitions only.
 use Rattle.std.specs.Prelude.{ℕ, ◌+◌, ◌-◌, ◌*◌, ◌/◌, ◌^◌, Bool, cond, ◌||◌, ltb}
 use Rattle.numbers.specs.Operand.{Operand, mantissa, last_weight}
-use Rattle.rounding.specs.Mode.{Mode}
+use Rattle.rounding.specs.declared.Mode.{Mode}
 use Rattle.rounding.specs.Sum.{scale}
 use Rattle.depth.specs.Columns.{top_exponent}
 use Rattle.depth.specs.Read.{unread}

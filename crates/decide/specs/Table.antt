@@ -2,7 +2,8 @@
 use Rattle.std.specs.Prelude.{ℕ, zero, suc, ◌+◌, ◌-◌, ◌%◌, ◌^◌, Bool, true, false, not, cond, ◌&&◌, ◌||◌, ltb, eqb}
 use Rattle.std.specs.Bool.{beq}
 use Rattle.std.specs.Float.Ieee.{size}
-use Rattle.rounding.specs.Mode.{Mode, way, Way, near, under, over}
+use Rattle.rounding.specs.Mode.{way, Way, near, under, over}
+use Rattle.rounding.specs.declared.Mode.{Mode}
 use Rattle.decide.specs.Class.{settled}
 use Rattle.decide.specs.Range.{decided, or_large, or_small}
 

@@ -16,7 +16,8 @@ use Rattle.limb.specs.Carry.{bit}
 use Rattle.limb.proofs.Carry.{bit_le}
 use Rattle.limb.proofs.Sizes.{size_part}
 use Rattle.numbers.specs.Operand.{Operand}
-use Rattle.rounding.specs.Mode.{Mode, Way, way}
+use Rattle.rounding.specs.Mode.{Way, way}
+use Rattle.rounding.specs.declared.Mode.{Mode}
 use Rattle.rounding.specs.Answer.{rounded}
 use Rattle.rounding.specs.Sum.{add}
 use Rattle.depth.specs.Bound.{deepest}

@@ -10,7 +10,8 @@ use lib.Ieee.Digits.{size-le}
 use Rattle.limb.proofs.Carry.{bit_le}
 use Rattle.numbers.specs.Limits.{least_precision, limbs_for}
 use Rattle.numbers.specs.Operand.{Operand}
-use Rattle.rounding.specs.Mode.{Mode, way}
+use Rattle.rounding.specs.Mode.{way}
+use Rattle.rounding.specs.declared.Mode.{Mode}
 use Rattle.depth.specs.Bound.{deepest}
 use Rattle.decide.specs.Decide.{decide_at}
 use Rattle.columns.specs.Column.{read_to}

@@ -9,7 +9,8 @@ use lib.Pow.{pow_pos}
 use Rattle.limb.proofs.Sizes.{size_part}
 use Rattle.numbers.specs.Limits.{most_precision}
 use Rattle.numbers.specs.Operand.{Operand}
-use Rattle.rounding.specs.Mode.{Mode, Way, way}
+use Rattle.rounding.specs.Mode.{Way, way}
+use Rattle.rounding.specs.declared.Mode.{Mode}
 use Rattle.depth.specs.Bound.{deepest}
 use Rattle.depth.proofs.Bounds.{deepest_today}
 use Rattle.decide.specs.Decide.{decide_at}

@@ -1,6 +1,5 @@
 // What fills the target.
 ghost use Rattle.std.specs.Prelude.{◌≡◌, ◌≤◌, length};
-ghost use Rattle.rounding.specs.Mode.{mode_of};
 ghost use Rattle.settle.specs.Rows.{Modest};
 ghost use Rattle.checks.specs.Room.{Room};
 ghost use Rattle.wide.specs.Filling.{Offered, FillsBy};
@@ -9,6 +8,7 @@ ghost use Rattle.deep.specs.Reading.{FrontFilled};
 
 use crate::reading::{is_settled, read_on};
 use front::Front;
+use rounding::Mode;
 use settle::Pair;
 use wide::{Filled, none};
 
@@ -43,7 +43,7 @@ fn filled(front: Front, more: bool, depth: u64, target: &mut [u64]) -> Filled
 
 // Fills a target of one limb, where a column after the first is seen to fix the answer, or the first does.
 pub fn fill(
-    mode: u8,
+    mode: Mode,
     negative: bool,
     p: u64,
     pair: Pair,
@@ -52,7 +52,7 @@ pub fn fill(
     target: &mut [u64],
 ) -> Filled
     requires { Room p (length target.old) × Offered pair first.now second.now × (p ≤ 62) × Deep pair }
-    ensures { (length target.new ≡ length target.old) × FillsBy (mode_of mode) negative p pair first.now second.now target.new result }
+    ensures { (length target.new ≡ length target.old) × FillsBy mode negative p pair first.now second.now target.new result }
 {
     let stop = inner_of(pair);
     if !descent::is_inland(pair, stop) {

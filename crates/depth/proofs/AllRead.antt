@@ -6,7 +6,7 @@ use native.Mathlib.Nat.{div-one}
 use native.Mathlib.Omega.{arith}
 use Rattle.rounding.proofs.Zeros.{amount_zero, amount_is}
 use Rattle.numbers.specs.Operand.{Operand, mantissa, last_weight, WellFormed}
-use Rattle.rounding.specs.Mode.{Mode}
+use Rattle.rounding.specs.declared.Mode.{Mode}
 use Rattle.rounding.specs.Sum.{amount, share, scale}
 use Rattle.depth.specs.Columns.{top_exponent, Like}
 use Rattle.depth.specs.Read.{unread}

@@ -12,7 +12,7 @@ use Rattle.numbers.specs.Limits.{most_precision}
 use Rattle.numbers.specs.Operand.{Operand, WellFormed}
 use Rattle.numbers.proofs.Limits.{two_digits, precisions_some}
 use Rattle.numbers.proofs.Digits.{precision_two}
-use Rattle.rounding.specs.Mode.{Mode}
+use Rattle.rounding.specs.declared.Mode.{Mode}
 use Rattle.depth.specs.Columns.{top_exponent}
 use Rattle.depth.specs.Depth.{plus, Fixed}
 use Rattle.depth.specs.Bound.{columns_for, far_columns, bound_of, bound, deepest}

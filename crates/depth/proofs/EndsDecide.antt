@@ -10,7 +10,8 @@ use native.Mathlib.Omega.{arith}
 use Rattle.rounding.proofs.Units.{scale_first, scale_second}
 use Rattle.rounding.proofs.Zeros.{amount_zero, share_as, share_other}
 use Rattle.numbers.specs.Operand.{Operand, last_weight, WellFormed}
-use Rattle.rounding.specs.Mode.{Mode, way}
+use Rattle.rounding.specs.Mode.{way}
+use Rattle.rounding.specs.declared.Mode.{Mode}
 use Rattle.rounding.specs.Answer.{Answer, zero_of, Answer-discrete, answer}
 use Rattle.rounding.specs.Sum.{scale, share, amount, zero_sign, sum_at, add}
 use Rattle.rounding.proofs.Order.{le_or_lt, Cmp, cmp}

@@ -8,7 +8,8 @@ use lib.Pow.{pow_pos}
 use lib.Ieee.{size}
 use Rattle.rounding.proofs.Zeros.{share_as, share_other}
 use Rattle.numbers.specs.Operand.{Operand, last_weight, WellFormed}
-use Rattle.rounding.specs.Mode.{Mode, Way, way}
+use Rattle.rounding.specs.Mode.{Way, way}
+use Rattle.rounding.specs.declared.Mode.{Mode}
 use Rattle.rounding.specs.Sum.{amount, share, scale, zero_sign, add}
 use Rattle.rounding.specs.Select.{chosen}
 use Rattle.rounding.specs.Answer.{digits, signed, Answer, zero_of, number, too_large, too_small, ranged, rounded, answer}

@@ -4,7 +4,7 @@ use mathlib.Core.Bool.{Bool, true, false, ◌&&◌, true≢false}
 use Prim.Native.Nat.{ℕ, ◌-◌, ◌<◌, max}
 use native.Mathlib.Omega.{arith}
 use Rattle.numbers.specs.Operand.{Operand}
-use Rattle.rounding.specs.Mode.{Mode}
+use Rattle.rounding.specs.declared.Mode.{Mode}
 use Rattle.rounding.proofs.Zeros.{add_commutes}
 use Rattle.depth.specs.Columns.{top_exponent, Like}
 use Rattle.depth.specs.Depth.{plus, result, Fixed, Open, Deciding}

@@ -7,7 +7,8 @@ use native.Mathlib.Omega.{arith}
 use lib.Pow.{pow_pos, pow_mono, pow-add}
 use Rattle.rounding.proofs.Zeros.{amount_is}
 use Rattle.numbers.specs.Operand.{Operand, mantissa, last_weight, WellFormed}
-use Rattle.rounding.specs.Mode.{Mode, way}
+use Rattle.rounding.specs.Mode.{way}
+use Rattle.rounding.specs.declared.Mode.{Mode}
 use Rattle.rounding.specs.Answer.{Answer, rounded, answer}
 use Rattle.rounding.specs.Sum.{amount, share, scale, zero_sign, sum_at}
 use Rattle.depth.specs.Columns.{top_exponent, Like}

@@ -5,7 +5,7 @@ use Prim.Native.Nat.{ℕ, zero, suc, ◌-◌, ◌≤◌, ◌<◌}
 use native.Mathlib.Nat.{le_refl, le_trans, le_antisymm, lt_of_lt_of_le}
 use native.Mathlib.Omega.{arith}
 use Rattle.numbers.specs.Operand.{Operand}
-use Rattle.rounding.specs.Mode.{Mode}
+use Rattle.rounding.specs.declared.Mode.{Mode}
 use Rattle.rounding.proofs.Order.{le_or_lt}
 use Rattle.depth.specs.Columns.{top_exponent, Agree, Like}
 use Rattle.depth.specs.Depth.{Operation, Fixed, Open, Deciding}

@@ -4,7 +4,7 @@ use mathlib.Core.Bool.{Bool, true, false, not}
 use Prim.Native.Nat.{ℕ}
 use Rattle.numbers.specs.Operand.{Operand, mantissa, last_weight, WellFormed, turned}
 use Rattle.numbers.proofs.Digits.{turned_well_formed}
-use Rattle.rounding.specs.Mode.{Mode}
+use Rattle.rounding.specs.declared.Mode.{Mode}
 use Rattle.rounding.specs.Sum.{add, subtract}
 use Rattle.depth.specs.Columns.{top_exponent, bit_at, column_bit, Agree, Like}
 use Rattle.depth.specs.Depth.{Operation, plus, minus, result, Fixed, Open}

@@ -8,7 +8,7 @@ use native.Mathlib.Nat.{le_trans, le_of_eq}
 use native.Mathlib.Omega.{arith}
 use Rattle.numbers.specs.Limits.{most_precision}
 use Rattle.numbers.specs.Operand.{Operand, mantissa, WellFormed}
-use Rattle.rounding.specs.Mode.{Mode}
+use Rattle.rounding.specs.declared.Mode.{Mode}
 use Rattle.rounding.specs.Sum.{share, scale, add}
 use Rattle.depth.specs.Columns.{top_exponent, Agree, Like}
 use Rattle.depth.specs.Read.{unread}

@@ -1,7 +1,7 @@
 -- Demand 3: the depth is the fewest columns, at least one, that fix the answer. Definitions only.
 use Rattle.std.specs.Prelude.{ℕ, ◌-◌, ◌≤◌, ◌<◌, ◌≡◌, true, false, ◌&&◌}
 use Rattle.numbers.specs.Operand.{Operand}
-use Rattle.rounding.specs.Mode.{Mode}
+use Rattle.rounding.specs.declared.Mode.{Mode}
 use Rattle.rounding.specs.Answer.{Answer}
 use Rattle.rounding.specs.Sum.{add, subtract}
 use Rattle.depth.specs.Columns.{top_exponent, Like}

@@ -8,7 +8,7 @@ use lib.ListN.{length}
 use Rattle.limb.proofs.Carry.{bit_le}
 use Rattle.limb.specs.Carry.{bit}
 use Rattle.numbers.specs.Operand.{Operand}
-use Rattle.rounding.specs.Mode.{Mode}
+use Rattle.rounding.specs.declared.Mode.{Mode}
 use Rattle.decide.specs.Decide.{decide_at}
 use Rattle.walk.specs.Window.{head_of, Shows, shown_columns}
 use Rattle.walk.specs.declared.state.Window.{Window}

@@ -17,7 +17,8 @@ use Rattle.limb.proofs.Value.{value_split, value_drop, base_pow}
 use Rattle.numbers.specs.Limits.{least_precision, most_precision, least_exponent, limbs_for}
 use Rattle.numbers.specs.Operand.{Operand}
 use Rattle.numbers.proofs.Digits.{precision_two}
-use Rattle.rounding.specs.Mode.{Mode, Way, way}
+use Rattle.rounding.specs.Mode.{Way, way}
+use Rattle.rounding.specs.declared.Mode.{Mode}
 use Rattle.depth.specs.Bound.{deepest}
 use Rattle.depth.proofs.Bounds.{deepest_today}
 use Rattle.decide.specs.Range.{large?, small?}

@@ -11,7 +11,7 @@ use lib.ListN.{length}
 use Rattle.numbers.specs.Limits.{most_precision, limbs_for}
 use Rattle.numbers.specs.Operand.{Operand, WellFormed}
 use Rattle.numbers.proofs.Limits.{two_digits, limbs_hold, limbs_fewest}
-use Rattle.rounding.specs.Mode.{Mode}
+use Rattle.rounding.specs.declared.Mode.{Mode}
 use Rattle.rounding.specs.Answer.{zero_of}
 use Rattle.rounding.specs.Sum.{add, zero_sign}
 use Rattle.rounding.proofs.Order.{le_or_lt}

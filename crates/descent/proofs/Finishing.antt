@@ -21,8 +21,9 @@ use Rattle.limb.specs.Value.{value_in, value_of, Below}
 use Rattle.limb.specs.Carry.{bit}
 use Rattle.limb.proofs.Value.{value_append, value_lt, value_take_lt, base_pow}
 use Rattle.numbers.specs.Limits.{least_precision, most_precision, most_exponent, limbs_for}
-use Rattle.rounding.specs.Mode.{Way, mode_of, way}
+use Rattle.rounding.specs.Mode.{Way, way}
 use Rattle.rounding.specs.Answer.{Answer, rounded}
+use Rattle.rounding.specs.declared.Mode.{Mode}
 use Rattle.decide.specs.Class.{enough}
 use Rattle.decide.proofs.Settled.{Enough, enough_true}
 use Rattle.place.specs.declared.Placed.{Placed}
@@ -92,7 +93,7 @@ module _ (carry : Bool) (t : List ℕ) (guard : ℕ) (lim : Below (2 ^ 64) t) (l
           nonzero zero h = absurd (h refl)
           nonzero (suc a) h = omega arith
 
-module _ (mode p : ℕ) (negative : Bool) (unit : ℕ) (carry : Bool) (t : List ℕ) (guard : ℕ) (more : Bool) where
+module _ (mode : Mode) (p : ℕ) (negative : Bool) (unit : ℕ) (carry : Bool) (t : List ℕ) (guard : ℕ) (more : Bool) where
   run_passes : Room p (length t) → Below (2 ^ 64) t → guard < 2 ^ 64 → 0 < unit → unit ≤ 2 * most_exponent → 2 ^ (64 * length t) ≤ whole carry t guard → run_rule p carry t unit ≡ 0
   run_passes r lim lt u v high =
       sym (rule_none p carry t unit (rw (le-leb least_precision p r.least, le-leb p most_precision r.most) refl) (eq-eqb (length t) (limbs_for p) r.count) (rw (lt-ltb 0 unit u, le-leb unit (2 * most_exponent) v) refl) (top_some carry t guard lim lt (room_some p (length t) r) high))
@@ -100,7 +101,7 @@ module _ (mode p : ℕ) (negative : Bool) (unit : ℕ) (carry : Bool) (t : List 
   -- what rounding such a run leaves
   pub run_left : Room p (length t) → Below (2 ^ 64) t → guard < 2 ^ 64 → 0 < unit → unit ≤ 2 * most_exponent → 2 ^ (64 * length t) ≤ whole carry t guard
       → {exit : List ℕ} {r : Placed} → r ≡ rounded_placed mode p negative unit carry t guard more → exit ≡ rounded_limbs mode p negative unit carry t guard more
-      → Left p (rounded (way (mode_of mode) negative) p (unit - 1) negative (2 * whole carry t guard + bit more)) exit r
+      → Left p (rounded (way mode negative) p (unit - 1) negative (2 * whole carry t guard + bit more)) exit r
   unfolding run_answer run_number whole headed
   run_left room lim lt u v high e f =
       let k = run_passes room lim lt u v high in
@@ -356,7 +357,7 @@ module _ (w : Window) (before after : List ℕ) (k D : ℕ) (s : Shows w before 
 
 -- ---- as the code finds it
 
-module _ (mode p top : ℕ) (negative : Bool) (w : Window) (before after : List ℕ) (end : Ending p top w before) (e : Cleared (length before - w.filled) before after)
+module _ (mode : Mode) (p top : ℕ) (negative : Bool) (w : Window) (before after : List ℕ) (end : Ending p top w before) (e : Cleared (length before - w.filled) before after)
     (lim : Below (2 ^ 64) after) (deep : Bool) (d : (t q : ℕ) → TailIs w.tail t q → deep ≡ not (eqb q 0)) where
   abbrev place : ℕ
   place = top - 64 * (w.skipped + length before + 1)
@@ -381,32 +382,32 @@ module _ (mode p top : ℕ) (negative : Bool) (w : Window) (before after : List 
 
   left_run : (by : ℕ) (more : Bool) → 2 ^ (64 * length before) ≤ whole w.carry after w.guard → {exit : List ℕ} {r : Placed}
       → r ≡ rounded_placed by p negative place w.carry after w.guard more → exit ≡ rounded_limbs by p negative place w.carry after w.guard more
-      → Left p (rounded (way (mode_of by) negative) p (place - 1) negative (2 * whole w.carry after w.guard + bit more)) exit r
+      → Left p (rounded (way by negative) p (place - 1) negative (2 * whole w.carry after w.guard + bit more)) exit r
   left_run by more h a b = run_left by p negative place w.carry after w.guard more room_after lim end.fits.guard_fits place_some place_near (rw e.size h) a b
 
   pub fixed_left : (more : Bool) → {exit : List ℕ} {r : Placed}
       → r ≡ rounded_placed mode p negative place w.carry after w.guard (more || deep) → exit ≡ rounded_limbs mode p negative place w.carry after w.guard (more || deep)
-      → (k D : ℕ) → Shows w before k D → 0 < D → 64 * k < top → (more ≡ true → enough (way (mode_of mode) negative) p D ≡ true)
-      → Left p (rounded (way (mode_of mode) negative) p (top - 64 * k - 1) negative (2 * D + bit more)) exit r
+      → (k D : ℕ) → Shows w before k D → 0 < D → 64 * k < top → (more ≡ true → enough (way mode negative) p D ≡ true)
+      → Left p (rounded (way mode negative) p (top - 64 * k - 1) negative (2 * D + bit more)) exit r
   fixed_left more {exit} {r} a b k D s pos above en =
-      rw (fixed_run w before after k D s e pos p top end above (way (mode_of mode) negative) negative more deep en (d s.below s.rest s.tail))
+      rw (fixed_run w before after k D s e pos p top end above (way mode negative) negative more deep en (d s.below s.rest s.tail))
       (left_run mode (more || deep) (lead_ge w before after k D s e pos) a b)
 
-  module _ (pair : Pair) (top_is : top ≡ pair.top) (by : ℕ) (by_is : way (mode_of by) negative ≡ hole_way (way (mode_of mode) negative) p pair) where
+  module _ (pair : Pair) (top_is : top ≡ pair.top) (by : Mode) (by_is : way by negative ≡ hole_way (way mode negative) p pair) where
     pub hole_more_left : (pair.same || deep) ≡ true → {exit : List ℕ} {r : Placed}
         → r ≡ rounded_placed by p negative place w.carry after w.guard true → exit ≡ rounded_limbs by p negative place w.carry after w.guard true
-        → (a : Answer) (k D : ℕ) → Shows w before k D → 0 < D → 64 * k < pair.top → HoleSays (way (mode_of mode) negative) p pair negative k D a → Left p a exit r
+        → (a : Answer) (k D : ℕ) → Shows w before k D → 0 < D → 64 * k < pair.top → HoleSays (way mode negative) p pair negative k D a → Left p a exit r
     unfolding bit
     hole_more_left h f g a k D s pos above says =
-        rw (hole_more w before after k D s e pos p top end (rw top_is above) (way (mode_of by) negative) negative pair deep (d s.below s.rest s.tail) top_is a (rw by_is says) h)
+        rw (hole_more w before after k D s e pos p top end (rw top_is above) (way by negative) negative pair deep (d s.below s.rest s.tail) top_is a (rw by_is says) h)
         (left_run by true (lead_ge w before after k D s e pos) f g)
 
     pub hole_less_left : (pair.same || deep) ≡ false → {exit : List ℕ} {r : Placed}
-        → (2 ^ (64 * length after) < whole w.carry after w.guard → Left p (rounded (way (mode_of by) negative) p (place - 1) negative (2 * whole w.carry after w.guard - 1)) exit r)
-        → (a : Answer) (k D : ℕ) → Shows w before k D → 0 < D → 64 * k < pair.top → HoleSays (way (mode_of mode) negative) p pair negative k D a → Left p a exit r
+        → (2 ^ (64 * length after) < whole w.carry after w.guard → Left p (rounded (way by negative) p (place - 1) negative (2 * whole w.carry after w.guard - 1)) exit r)
+        → (a : Answer) (k D : ℕ) → Shows w before k D → 0 < D → 64 * k < pair.top → HoleSays (way mode negative) p pair negative k D a → Left p a exit r
     hole_less_left h left a k D s pos above says =
-        rw (hole_less w before after k D s e pos p top end (rw top_is above) (way (mode_of by) negative) negative pair deep (d s.below s.rest s.tail) top_is a (rw by_is says) h)
-        (left (rw e.size (lead_gt w before after k D s e pos (no_rest w before after k D s e pos p top end (rw top_is above) (way (mode_of by) negative) negative pair deep (d s.below s.rest s.tail) (second pair.same deep h)))))
+        rw (hole_less w before after k D s e pos p top end (rw top_is above) (way by negative) negative pair deep (d s.below s.rest s.tail) top_is a (rw by_is says) h)
+        (left (rw e.size (lead_gt w before after k D s e pos (no_rest w before after k D s e pos p top end (rw top_is above) (way by negative) negative pair deep (d s.below s.rest s.tail) (second pair.same deep h)))))
       where
         second : (u v : Bool) → (u || v) ≡ false → v ≡ false
         second true v e = absurd (let z : ◌≡◌ {A = ℕ} 0 1 = cc in omega arith)
@@ -414,14 +415,14 @@ module _ (mode p top : ℕ) (negative : Bool) (w : Window) (before after : List 
 
 -- ---- a run less one
 
-module _ (mode p unit : ℕ) (negative carry : Bool) (t : List ℕ) (room : Room p (length t)) (u : 0 < unit) (v : unit ≤ 2 * most_exponent) where
+module _ (mode : Mode) (p unit : ℕ) (negative carry : Bool) (t : List ℕ) (room : Room p (length t)) (u : 0 < unit) (v : unit ≤ 2 * most_exponent) where
   pub less_guard : (guard : ℕ) → (guard ≡ 0 → ⊥) → guard < 2 ^ 64 → Below (2 ^ 64) t → {exit : List ℕ} {r : Placed}
       → r ≡ rounded_placed mode p negative unit carry t (guard - 1) true → exit ≡ rounded_limbs mode p negative unit carry t (guard - 1) true
-      → 2 ^ (64 * length t) < whole carry t guard → Left p (rounded (way (mode_of mode) negative) p (unit - 1) negative (2 * whole carry t guard - 1)) exit r
+      → 2 ^ (64 * length t) < whole carry t guard → Left p (rounded (way mode negative) p (unit - 1) negative (2 * whole carry t guard - 1)) exit r
   unfolding whole bit
   less_guard guard n lt lim {exit} {r} a b h =
       let i : whole carry t guard ≡ suc (whole carry t (guard - 1)) = last (headed carry t * 2 ^ 64) guard n in
-      rw i (subst (λ (m : ℕ). Left p (rounded (way (mode_of mode) negative) p (unit - 1) negative m) exit r) (twice (whole carry t (guard - 1)))
+      rw i (subst (λ (m : ℕ). Left p (rounded (way mode negative) p (unit - 1) negative m) exit r) (twice (whole carry t (guard - 1)))
       (run_left mode p negative unit carry t (guard - 1) true room lim (omega arith) u v (below (2 ^ (64 * length t)) (whole carry t guard) (whole carry t (guard - 1)) h i) a b))
     where
       last : (m g : ℕ) → (g ≡ 0 → ⊥) → m + g ≡ suc (m + (g - 1))
@@ -447,7 +448,7 @@ module _ (mode p unit : ℕ) (negative carry : Bool) (t : List ℕ) (room : Room
 
   pub less_fall : (guard : ℕ) → guard ≡ 0 → (after : List ℕ) (out : Bool) → Fallen 0 t after out → Below (2 ^ 64) after → {exit : List ℕ} {r : Placed}
       → r ≡ rounded_placed mode p negative unit (carry && not out) after 18446744073709551615 true → exit ≡ rounded_limbs mode p negative unit (carry && not out) after 18446744073709551615 true
-      → 2 ^ (64 * length t) < whole carry t guard → Left p (rounded (way (mode_of mode) negative) p (unit - 1) negative (2 * whole carry t guard - 1)) exit r
+      → 2 ^ (64 * length t) < whole carry t guard → Left p (rounded (way mode negative) p (unit - 1) negative (2 * whole carry t guard - 1)) exit r
   unfolding whole headed
   less_fall guard z after out fall lim {exit} {r} a b h =
       let l = fall.same_length in
@@ -456,7 +457,7 @@ module _ (mode p unit : ℕ) (negative carry : Bool) (t : List ℕ) (room : Room
       let f : value_of after + 1 ≡ value_of t + Q * bit out = rw (pow-zero (2 ^ 64), base_pow (length t)) at fall.value in
       let i : whole carry t guard ≡ suc (whole (carry && not out) after 18446744073709551615) =
       rw (z, l) (fallen carry out Q (value_of after) (value_of t) (2 ^ 64) 18446744073709551615 refl f vl (rw z at h)) in
-      rw i (subst (λ (m : ℕ). Left p (rounded (way (mode_of mode) negative) p (unit - 1) negative m) exit r) (twice (whole (carry && not out) after 18446744073709551615))
+      rw i (subst (λ (m : ℕ). Left p (rounded (way mode negative) p (unit - 1) negative m) exit r) (twice (whole (carry && not out) after 18446744073709551615))
       (run_left mode p negative unit (carry && not out) after 18446744073709551615 true (rw l room) lim (omega arith) u v (subst (λ (m : ℕ). 2 ^ (64 * m) ≤ whole (carry && not out) after 18446744073709551615) (sym l) (below Q (whole carry t guard) (whole (carry && not out) after 18446744073709551615) h i)) a b))
     where
       twice : (m : ℕ) → 2 * m + bit true ≡ 2 * suc m - 1

@@ -10,7 +10,7 @@ use Rattle.descent.proofs.JudgingRange.{digits_some}
 use Rattle.columns.proofs.Reading.{read_early}
 use Rattle.numbers.specs.Limits.{least_precision, limbs_for}
 use Rattle.numbers.specs.Operand.{Operand}
-use Rattle.rounding.specs.Mode.{Mode}
+use Rattle.rounding.specs.declared.Mode.{Mode}
 use Rattle.depth.specs.Bound.{deepest}
 use Rattle.depth.proofs.Bounds.{deepest_today}
 use Rattle.decide.specs.Decide.{decide_at}

@@ -14,7 +14,7 @@ use Rattle.columns.proofs.Reading.{read_lt}
 use Rattle.numbers.specs.Limits.{most_precision}
 use Rattle.numbers.specs.Operand.{Operand}
 use Rattle.numbers.proofs.Digits.{precision_two}
-use Rattle.rounding.specs.Mode.{Mode}
+use Rattle.rounding.specs.declared.Mode.{Mode}
 use Rattle.rounding.proofs.Order.{le_or_lt}
 use Rattle.depth.specs.Depth.{plus}
 use Rattle.depth.specs.Bound.{bound, deepest}

@@ -16,7 +16,8 @@ use Rattle.limb.proofs.Carry.{bit_le}
 use Rattle.limb.specs.Carry.{bit}
 use Rattle.numbers.specs.Limits.{least_precision, limbs_for}
 use Rattle.numbers.specs.Operand.{Operand}
-use Rattle.rounding.specs.Mode.{Mode, Way, way, near, under, over}
+use Rattle.rounding.specs.Mode.{Way, way, near, under, over}
+use Rattle.rounding.specs.declared.Mode.{Mode}
 use Rattle.rounding.proofs.Order.{le_or_lt, compare_at}
 use Rattle.depth.specs.Bound.{columns_for, far_columns, bound_of, bound}
 use Rattle.decide.specs.Class.{tie, off, lean, alike, enough, settled}

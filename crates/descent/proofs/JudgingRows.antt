@@ -10,7 +10,8 @@ use Rattle.limb.specs.Carry.{bit}
 use Rattle.numbers.specs.Limits.{most_precision, bias, most_exponent}
 use Rattle.numbers.specs.Operand.{Operand, mantissa, spare_bits}
 use Rattle.numbers.proofs.Digits.{precision_two}
-use Rattle.rounding.specs.Mode.{Mode, way}
+use Rattle.rounding.specs.Mode.{way}
+use Rattle.rounding.specs.declared.Mode.{Mode}
 use Rattle.rounding.specs.Mode as mode
 use Rattle.rounding.specs.Answer.{rounded}
 use Rattle.rounding.specs.Sum.{add}

@@ -7,7 +7,9 @@ use native.Mathlib.Omega.{arith}
 use borrow.Author.Tests.{eq-eqb, ne_eqb, not-true, not-false}
 use lib.Dec.{eqb}
 use lib.Pow.{pow_pos}
-use Rattle.rounding.specs.Mode.{mode_of, way}
+use Rattle.rounding.specs.Mode.{way}
+use Rattle.rounding.specs.declared.Mode.{Mode}
+use Rattle.rounding.specs.declared.Mode.TheVariants.{Zeroward, Upward, Downward}
 use Rattle.settle.specs.declared.rows.Pair.{Pair}
 use Rattle.walk.specs.declared.state.Tail.TheVariants.{Empty, Zeros, Ones, Mixed}
 use Rattle.walk.specs.Window.{TailIs}
@@ -39,12 +41,12 @@ mixed_more t q h = some_more q h.1
 
 -- ---- the mode of a hole
 
-module _ (mode : ℕ) (negative : Bool) (p : ℕ) (pair : Pair) where
-  pub mode_other : (mode ≡ 0 → ⊥) → way (mode_of mode) negative ≡ hole_way (way (mode_of mode) negative) p pair
-  unfolding hole_way middle? way mode_of
+module _ (mode : Mode) (negative : Bool) (p : ℕ) (pair : Pair) where
+  pub mode_other : (mode ≡ 0 → ⊥) → way mode negative ≡ hole_way (way mode negative) p pair
+  unfolding hole_way middle? way
   mode_other h = go mode h negative
     where
-      go : (m : ℕ) → (m ≡ 0 → ⊥) → (n : Bool) → way (mode_of m) n ≡ hole_way (way (mode_of m) n) p pair
+      go : (m : ℕ) → (m ≡ 0 → ⊥) → (n : Bool) → way m n ≡ hole_way (way m n) p pair
       go zero h n = absurd (h refl)
       go (suc zero) h n = refl
       go (suc (suc zero)) h true = refl
@@ -53,19 +55,19 @@ module _ (mode : ℕ) (negative : Bool) (p : ℕ) (pair : Pair) where
       go (suc (suc (suc m))) h false = refl
 
   module _ (e : mode ≡ 0) where
-    pub mode_apart : (p ≡ pair.gap → ⊥) → way (mode_of mode) negative ≡ hole_way (way (mode_of mode) negative) p pair
-    unfolding hole_way middle? way mode_of
+    pub mode_apart : (p ≡ pair.gap → ⊥) → way mode negative ≡ hole_way (way mode negative) p pair
+    unfolding hole_way middle? way
     mode_apart h = rw (e, ne_eqb p pair.gap h) refl
 
     module _ (f : p ≡ pair.gap) where
-      pub mode_less : not pair.same ≡ true → way (mode_of 1) negative ≡ hole_way (way (mode_of mode) negative) p pair
-      unfolding hole_way middle? way mode_of
+      pub mode_less : not pair.same ≡ true → way Zeroward negative ≡ hole_way (way mode negative) p pair
+      unfolding hole_way middle? way
       mode_less g = rw (e, eq-eqb p pair.gap f, not-true pair.same g) refl
 
-      pub mode_more_down : not pair.same ≡ false → negative ≡ true → way (mode_of 3) negative ≡ hole_way (way (mode_of mode) negative) p pair
-      unfolding hole_way middle? way mode_of
+      pub mode_more_down : not pair.same ≡ false → negative ≡ true → way Downward negative ≡ hole_way (way mode negative) p pair
+      unfolding hole_way middle? way
       mode_more_down g n = rw (e, eq-eqb p pair.gap f, not-false pair.same g, n) refl
 
-      pub mode_more_up : not pair.same ≡ false → negative ≡ false → way (mode_of 2) negative ≡ hole_way (way (mode_of mode) negative) p pair
-      unfolding hole_way middle? way mode_of
+      pub mode_more_up : not pair.same ≡ false → negative ≡ false → way Upward negative ≡ hole_way (way mode negative) p pair
+      unfolding hole_way middle? way
       mode_more_up g n = rw (e, eq-eqb p pair.gap f, not-false pair.same g, n) refl

@@ -16,7 +16,8 @@ use Rattle.descent.proofs.JudgingRange.{digits_some}
 use Rattle.limb.specs.Carry.{bit}
 use Rattle.numbers.specs.Limits.{bias, most_precision, least_exponent, most_exponent, limbs_for}
 use Rattle.numbers.specs.Operand.{Operand}
-use Rattle.rounding.specs.Mode.{Mode, Way, mode_of, way}
+use Rattle.rounding.specs.Mode.{Way, way}
+use Rattle.rounding.specs.declared.Mode.{Mode}
 use Rattle.rounding.specs.Select.{chosen}
 use Rattle.rounding.specs.Answer.{Answer, number, too_large, too_small, ranged, digits, signed, rounded}
 use Rattle.rounding.specs.Sum.{add}
@@ -74,9 +75,9 @@ rounded_signed w p s n m =
     go false true e d t l = tt
     go false false e d t l = (refl, in_range e l)
 
-module _ (mode p n : ℕ) (room : Room p n) (x y : Operand) (from : ℕ) (course : Course x y from) (walked : Walked) (t : List ℕ) (st : Stopped (mode_of mode) p x y walked t) where
+module _ (mode : Mode) (p n : ℕ) (room : Room p n) (x y : Operand) (from : ℕ) (course : Course x y from) (walked : Walked) (t : List ℕ) (st : Stopped mode p x y walked t) where
   abbrev o : Mode
-  o = mode_of mode
+  o = mode
 
   abbrev k : ℕ
   k = walked.columns

@@ -4,7 +4,8 @@ use Rattle.std.specs.Float.Ieee.{size}
 use Rattle.limb.specs.Carry.{bit}
 use Rattle.numbers.specs.Limits.{least_exponent, most_exponent}
 use Rattle.numbers.specs.Operand.{Operand}
-use Rattle.rounding.specs.Mode.{Mode, way}
+use Rattle.rounding.specs.Mode.{way}
+use Rattle.rounding.specs.declared.Mode.{Mode}
 use Rattle.rounding.specs.Answer.{too_large, too_small, rounded}
 use Rattle.rounding.specs.Sum.{add}
 use Rattle.depth.specs.Bound.{deepest}

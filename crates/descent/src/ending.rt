@@ -3,7 +3,7 @@ ghost use Rattle.std.specs.Prelude.{◌≡◌, true, not, ℕ, ◌+◌, ◌-◌,
 ghost use Rattle.limb.specs.Carry.{bit};
 ghost use Rattle.numbers.specs.Limits.{most_exponent};
 ghost use Rattle.numbers.specs.Operand.{Operand};
-ghost use Rattle.rounding.specs.Mode.{mode_of, way};
+ghost use Rattle.rounding.specs.Mode.{way};
 ghost use Rattle.rounding.specs.Answer.{Answer, rounded};
 ghost use Rattle.rounding.specs.Sum.{add};
 ghost use Rattle.decide.specs.Class.{enough};
@@ -17,6 +17,7 @@ ghost use Rattle.descent.specs.Finishing.{Cleared, Ending, Left, HoleSays};
 
 use crate::going::{Verdict, Walked};
 use place::Placed;
+use rounding::Mode;
 use settle::Pair;
 use walk::{Tail, Window};
 
@@ -46,7 +47,7 @@ pub fn holds_more(tail: Tail) -> bool
 
 // Rounds the sum D, and more if so said.
 fn fixed(
-    mode: u8,
+    mode: Mode,
     negative: bool,
     p: u64,
     top: u64,
@@ -55,7 +56,7 @@ fn fixed(
     target: &mut [u64],
 ) -> Placed
     requires { Ending p top w target.old }
-    ensures { (k D : ℕ) → Shows w target.old k D → 0 < D → 64 * k < top → (more ≡ true → enough (way (mode_of mode) negative) p D ≡ true) → Left p (rounded (way (mode_of mode) negative) p (top - 64 * k - 1) negative (2 * D + bit more)) target.new result }
+    ensures { (k D : ℕ) → Shows w target.old k D → 0 < D → 64 * k < top → (more ≡ true → enough (way mode negative) p D ≡ true) → Left p (rounded (way mode negative) p (top - 64 * k - 1) negative (2 * D + bit more)) target.new result }
 {
     let n = target.len();
     clear_low(target, n - w.filled);
@@ -75,24 +76,22 @@ fn fixed(
 }
 
 // The mode by which a hole is rounded: from a tie, to the side on which the second operand lies.
-fn hole_mode(mode: u8, negative: bool, p: u64, pair: Pair) -> u8
-    ensures { way (mode_of result) negative ≡ hole_way (way (mode_of mode) negative) p pair }
+fn hole_mode(mode: Mode, negative: bool, p: u64, pair: Pair) -> Mode
+    ensures { way result negative ≡ hole_way (way mode negative) p pair }
 {
-    if mode != 0 {
+    if (mode != Mode::Nearest) | (p != pair.gap) {
         return mode;
     }
-    if p != pair.gap {
-        return mode;
+    match (pair.same, negative) {
+        (false, _) => Mode::Zeroward,
+        (true, false) => Mode::Upward,
+        (true, true) => Mode::Downward,
     }
-    if !pair.same {
-        return 1;
-    }
-    if negative { 3 } else { 2 }
 }
 
 // Rounds what stands in the target, less a little.
 fn less(
-    mode: u8,
+    mode: Mode,
     negative: bool,
     p: u64,
     unit: u64,
@@ -101,7 +100,7 @@ fn less(
     target: &mut [u64],
 ) -> Placed
     requires { Room p (length target.old) × (0 < unit) × (unit ≤ 2 * most_exponent) }
-    ensures { 2 ^ (64 * length target.old) < whole carry target.old guard → Left p (rounded (way (mode_of mode) negative) p (unit - 1) negative (2 * whole carry target.old guard - 1)) target.new result }
+    ensures { 2 ^ (64 * length target.old) < whole carry target.old guard → Left p (rounded (way mode negative) p (unit - 1) negative (2 * whole carry target.old guard - 1)) target.new result }
 {
     if guard != 0 {
         return place::round_run(negative, carry, target, guard - 1, true, unit, p, mode);
@@ -120,9 +119,9 @@ fn less(
 }
 
 // Rounds the sum D in a hole, with a little more or a little less.
-fn hole(mode: u8, negative: bool, p: u64, pair: Pair, w: Window, target: &mut [u64]) -> Placed
+fn hole(mode: Mode, negative: bool, p: u64, pair: Pair, w: Window, target: &mut [u64]) -> Placed
     requires { Ending p pair.top w target.old }
-    ensures { (a : Answer) (k D : ℕ) → Shows w target.old k D → 0 < D → 64 * k < pair.top → HoleSays (way (mode_of mode) negative) p pair negative k D a → Left p a target.new result }
+    ensures { (a : Answer) (k D : ℕ) → Shows w target.old k D → 0 < D → 64 * k < pair.top → HoleSays (way mode negative) p pair negative k D a → Left p a target.new result }
 {
     let n = target.len();
     clear_low(target, n - w.filled);
@@ -151,7 +150,7 @@ fn refuse(rule: u8, target: &mut [u64]) -> Placed
 
 // Rounds where the walk ended.
 pub fn finish(
-    mode: u8,
+    mode: Mode,
     negative: bool,
     p: u64,
     pair: Pair,
@@ -159,7 +158,7 @@ pub fn finish(
     target: &mut [u64],
 ) -> Placed
     requires { Ending p pair.top walked.window target.old }
-    ensures { (x y : Operand) (from : ℕ) → Course x y from → pair ≡ pair_of x y → negative ≡ x.negative → Stopped (mode_of mode) p x y walked target.old → Left p (add (mode_of mode) p x y) target.new result }
+    ensures { (x y : Operand) (from : ℕ) → Course x y from → pair ≡ pair_of x y → negative ≡ x.negative → Stopped mode p x y walked target.old → Left p (add mode p x y) target.new result }
 {
     let w = walked.window;
     let verdict = walked.verdict;

@@ -5,7 +5,8 @@ use Rattle.std.specs.Prelude.{Bool, cond, ltb, eqb, ℤ, pos, negsuc, Float}
 use Rattle.std.specs.Float.{binary64}
 use Rattle.std.specs.Float.Ieee.{to_bits, size}
 use Rattle.numbers.specs.Operand.{Operand, mantissa, last_weight}
-use Rattle.rounding.specs.Mode.{Mode, Way, mode_of, way}
+use Rattle.rounding.specs.Mode.{Way, mode_of, way}
+use Rattle.rounding.specs.declared.Mode.{Mode}
 use Rattle.rounding.specs.Select.{chosen}
 use Rattle.rounding.specs.Answer.{Answer, zero_of, number, too_large, too_small, digits, signed}
 use Rattle.location.specs.Ternary.{ternary_of}
@@ -35,8 +36,8 @@ converted_in bits least most o x =
 
 -- ---- doubles
 
-unfoldable pub in_doubles : ℕ → Operand → Answer
-in_doubles mode x = converted_in double_precision double_least double_most (mode_of mode) x
+unfoldable pub in_doubles : Mode → Operand → Answer
+in_doubles mode x = converted_in double_precision double_least double_most mode x
 
 -- 12 and 13 have the place 0
 unfoldable pub outside : ℕ → Converted
@@ -59,7 +60,7 @@ double_case too_small = outside 13
 unfoldable pub converted_of : ℕ → Operand → Converted
 converted_of mode x =
     let r = converted_refusal mode x in
-    cond (eqb r.rule 0) (double_case (in_doubles mode x)) (Refused r)
+    cond (eqb r.rule 0) (double_case (in_doubles (mode_of mode) x)) (Refused r)
 
 -- ---- this paper's number and values for each case
 
@@ -86,4 +87,4 @@ told_answer too_small = record { case = pos 0; bits = 0; rule = 13; place = 0 }
 unfoldable pub told_of : ℕ → Operand → Told
 told_of mode x =
     let r = converted_refusal mode x in
-    cond (eqb r.rule 0) (told_answer (in_doubles mode x)) (record { case = pos 0; bits = 0; rule = r.rule; place = r.place })
+    cond (eqb r.rule 0) (told_answer (in_doubles (mode_of mode) x)) (record { case = pos 0; bits = 0; rule = r.rule; place = r.place })

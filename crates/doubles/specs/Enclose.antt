@@ -6,6 +6,7 @@ use Rattle.std.specs.Float.Ieee.{to_bits}
 use Rattle.numbers.specs.Operand.{Operand}
 use Rattle.rounding.specs.Sum.{amount}
 use Rattle.rounding.specs.Paper.{Le}
+use Rattle.rounding.specs.declared.Mode.TheVariants.{Upward, Downward}
 use Rattle.checks.specs.declared.Refusal.{Refusal}
 use Rattle.checks.specs.Check.{accepted, alone_refusal}
 use Rattle.doubles.specs.declared.Converted.{Converted}
@@ -45,7 +46,7 @@ pair_of down up =
 unfoldable pub enclosed_of : Operand → Enclosed
 enclosed_of x =
     cond (eqb (alone_refusal x).rule 0)
-    (pair_of (double_case (in_doubles 3 x)) (double_case (in_doubles 2 x)))
+    (pair_of (double_case (in_doubles Downward x)) (double_case (in_doubles Upward x)))
     (unenclosed_by (alone_refusal x))
 
 -- "the number is a double": finite bits of its sign and its worth

@@ -4,12 +4,14 @@
 ghost use Rattle.std.specs.Prelude.{◌≡◌, false};
 ghost use Rattle.numbers.specs.Operand.{WellFormed};
 ghost use Rattle.rounding.specs.Answer.{zero_of};
+ghost use Rattle.rounding.specs.declared.Mode.TheVariants.{Upward, Downward};
 ghost use Rattle.checks.specs.Number.{is_zero_kind, operand_of};
 ghost use Rattle.select.specs.Steps.{Selects};
 ghost use Rattle.doubles.specs.Convert.{outside, case_of, double_case, in_doubles, converted_of, told, told_of};
 ghost use Rattle.doubles.specs.Enclose.{end_of, refusal_of, unenclosed_by, pair_of, enclosed_of};
 
 use checks::{Number, Refusal};
+use rounding::Mode;
 use select::Selected;
 
 mod pack; // pack.rt: bits of a double
@@ -57,7 +59,7 @@ fn refused(rule: u8) -> Converted
 }
 
 // The double of the 53 digits that a mode selects of a regular number, once the range is judged.
-fn judged(mode: u8, x: Number, xl: &[u64], s: Selected) -> Converted
+fn judged(mode: Mode, x: Number, xl: &[u64], s: Selected) -> Converted
     requires { WellFormed (operand_of x xl.now) × (is_zero_kind x.kind ≡ false) × Selects mode (operand_of x xl.now) s }
     ensures { result ≡ double_case (in_doubles mode (operand_of x xl.now)) }
 {
@@ -83,7 +85,7 @@ fn zero_exact(negative: bool) -> Converted
 }
 
 // The double that a mode selects for a number of good form: 53 digits first, and then the range is judged.
-fn convert(mode: u8, x: Number, xl: &[u64]) -> Converted
+fn convert(mode: Mode, x: Number, xl: &[u64]) -> Converted
     requires { WellFormed (operand_of x xl.now) }
     ensures { result ≡ double_case (in_doubles mode (operand_of x xl.now)) }
 {
@@ -103,7 +105,10 @@ pub fn to_double(mode: u8, x: Number, xl: &[u64]) -> Converted
     if refusal.rule != 0 {
         return Converted::Refused(refusal);
     }
-    convert(mode, x, xl)
+    let Ok(known) = Mode::try_from(mode) else {
+        return Converted::Refused(refusal);
+    };
+    convert(known, x, xl)
 }
 
 // The double of an answer, or +0.
@@ -167,11 +172,16 @@ fn pair_of(down: Converted, up: Converted) -> Enclosed
 // The pair of a regular number of good form; its leading digits are read once for both ends.
 fn enclose_regular(x: Number, xl: &[u64]) -> Enclosed
     requires { WellFormed (operand_of x xl.now) × (is_zero_kind x.kind ≡ false) }
-    ensures { result ≡ pair_of (double_case (in_doubles 3 (operand_of x xl.now))) (double_case (in_doubles 2 (operand_of x xl.now))) }
+    ensures { result ≡ pair_of (double_case (in_doubles Downward (operand_of x xl.now))) (double_case (in_doubles Upward (operand_of x xl.now))) }
 {
     let a = select::leading(xl, x.precision);
-    let down = judged(3, x, xl, select::select(3, x, xl, a));
-    let up = judged(2, x, xl, select::select(2, x, xl, a));
+    let down = judged(
+        Mode::Downward,
+        x,
+        xl,
+        select::select(Mode::Downward, x, xl, a),
+    );
+    let up = judged(Mode::Upward, x, xl, select::select(Mode::Upward, x, xl, a));
     pair_of(down, up)
 }
 

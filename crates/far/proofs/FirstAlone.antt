@@ -10,7 +10,8 @@ use lib.ListN.{length}
 use Rattle.limb.specs.Value.{value_of, Below}
 use Rattle.numbers.specs.Limits.{most_precision, limbs_for}
 use Rattle.numbers.specs.Operand.{Operand}
-use Rattle.rounding.specs.Mode.{mode_of}
+use Rattle.rounding.specs.declared.Mode.{Mode}
+use Rattle.rounding.specs.declared.Mode.TheVariants.{Nearest}
 use Rattle.place.specs.declared.Placed.{Placed}
 use Rattle.place.specs.Placed.{run_rule}
 use Rattle.place.specs.Rounded.{rounded_placed, rounded_limbs}
@@ -115,10 +116,10 @@ module _ (p : ℕ) (pair : Pair) (first before : List ℕ) (a : Alone p pair fir
     far_unit = unit_room p (length after) kept pair first second x a.offered.other h
 
     pub far_fit : run_rule p false after (pair.top - 64 * (length after + 1)) ≡ 0
-    far_fit = fit p pair first second after kept x a.offered.other h false (fills refl (mode_of 0) x a.offered.other h).led
+    far_fit = fit p pair first second after kept x a.offered.other h false (fills refl Nearest x a.offered.other h).led
 
-    pub far_told : (mode : ℕ) (negative : Bool) (z w : Operand) → Holding z w pair first second → negative ≡ z.negative → (swapped : Bool) {exit : List ℕ} {placed : Placed} {i j : ℕ}
+    pub far_told : (mode : Mode) (negative : Bool) (z w : Operand) → Holding z w pair first second → negative ≡ z.negative → (swapped : Bool) {exit : List ℕ} {placed : Placed} {i j : ℕ}
         → placed ≡ rounded_placed mode p negative (pair.top - 64 * (length after + 1)) false after guard true → exit ≡ rounded_limbs mode p negative (pair.top - 64 * (length after + 1)) false after guard true
-        → i ≡ cond swapped 0 n → j ≡ cond swapped n 0 → Attempted (mode_of mode) p z w exit negative placed n (cond swapped j i) (cond swapped i j)
+        → i ≡ cond swapped 0 n → j ≡ cond swapped n 0 → Attempted mode p z w exit negative placed n (cond swapped j i) (cond swapped i j)
     far_told mode negative z w g sign swapped c d e f =
-        in_order_told p pair first second after kept z w g mode (run_of n guard) (fills refl (mode_of mode) z w g) negative sign c d (used_in_order swapped e f (used_far n pair.gap (length first) (length second) (room_some p n a.room) a.long a.below))
+        in_order_told p pair first second after kept z w g mode (run_of n guard) (fills refl mode z w g) negative sign c d (used_in_order swapped e f (used_far n pair.gap (length first) (length second) (room_some p n a.room) a.long a.below))

@@ -16,6 +16,7 @@ use Rattle.numbers.specs.Limits.{least_exponent, most_exponent, most_precision, 
 use Rattle.numbers.specs.Limbs.{limbs_of}
 use Rattle.numbers.specs.Operand.{Operand, Regular, spare_bits}
 use Rattle.numbers.proofs.Digits.{limbs_count, limbs_below, limbs_value}
+use Rattle.rounding.specs.declared.Mode.{Mode}
 use Rattle.place.specs.declared.Placed.{Placed}
 use Rattle.place.specs.Placed.{run_number, run_answer, placed_of, limbs_after}
 use Rattle.place.specs.Beside.{Stored, above_answer, below_answer}
@@ -91,7 +92,7 @@ module _ (p : ℕ) (pair : Pair) (first before : List ℕ) (a : Alone p pair fir
 
   -- ---- a little more
 
-  module _ (same : pair.same ≡ true) (mode : ℕ) (negative : Bool) {t : List ℕ} (copied : t ≡ first) where
+  module _ (same : pair.same ≡ true) (mode : Mode) (negative : Bool) {t : List ℕ} (copied : t ≡ first) where
     beside : Beside pair.same first first 0
     beside = beside_more first first refl same
 
@@ -131,7 +132,7 @@ module _ (p : ℕ) (pair : Pair) (first before : List ℕ) (a : Alone p pair fir
           under : (m : ℕ) → value_of first < m → value_of first - 1 < m
           under m h = omega arith
 
-  module _ (unlike : pair.same ≡ false) (mode : ℕ) (negative : Bool) {t : List ℕ} (copied : t ≡ first) where
+  module _ (unlike : pair.same ≡ false) (mode : Mode) (negative : Bool) {t : List ℕ} (copied : t ≡ first) where
     beside_it : Beside pair.same first less 18446744073709551615
     beside_it = record { size = limbs_count _ _; more = λ s. absurd (true≢false (sym s ∙ unlike)); less = λ s. (λ h. less_value, refl) }
 

@@ -1,6 +1,7 @@
 -- The first operand alone in the target: what is held of it there, and what is answered. Definitions only.
 use Rattle.std.specs.Prelude.{ℕ, ◌+◌, ◌-◌, ◌*◌, ◌^◌, ◌≤◌, ◌<◌, ◌≡◌, Bool, true, false, List, length}
 use Rattle.limb.specs.Value.{Below}
+use Rattle.rounding.specs.declared.Mode.{Mode}
 use Rattle.place.specs.declared.Placed.{Placed}
 use Rattle.place.specs.Rounded.{rounded_placed, rounded_limbs}
 use Rattle.settle.specs.declared.rows.Pair.{Pair}
@@ -20,7 +21,7 @@ pub record Alone (p : ℕ) (pair : Pair) (first target : List ℕ) : Type 0 wher
   pub inland : Inland pair (length target - 1)
 
 -- a little more or a little less than `first`, as a run of limbs with its guard, is rounded
-pub record Answered (mode p : ℕ) (negative : Bool) (pair : Pair) (first : List ℕ) (r : Placed) (exit : List ℕ) : Type 0 where
+pub record Answered (mode : Mode) (p : ℕ) (negative : Bool) (pair : Pair) (first : List ℕ) (r : Placed) (exit : List ℕ) : Type 0 where
   pub run : List ℕ
   pub guard : ℕ
   pub limbs : Below (2 ^ 64) run

@@ -8,7 +8,7 @@
 
 ghost use Rattle.std.specs.Prelude.{◌≡◌, true, false, cond, ◌+◌, ◌*◌, ◌≤◌, ◌<◌, length};
 ghost use Rattle.numbers.specs.Operand.{Operand};
-ghost use Rattle.rounding.specs.Mode.{mode_of, way};
+ghost use Rattle.rounding.specs.Mode.{way};
 ghost use Rattle.location.specs.declared.Location.TheVariants.{Upper};
 ghost use Rattle.location.specs.Location.{goes_up};
 ghost use Rattle.checks.specs.Room.{Room};
@@ -21,6 +21,7 @@ use choice::either;
 use location::{Location, rounds_up};
 use parts::copy;
 use place::Placed;
+use rounding::Mode;
 use settle::Pair;
 use wide::{Attempt, nothing};
 
@@ -39,7 +40,7 @@ fn fill(same: bool, first: &[u64], target: &mut [u64]) -> u64
 
 // Rounds the first operand and a little more, or a little less: its limbs, or one less, and a guard.
 fn round_beside(
-    mode: u8,
+    mode: Mode,
     negative: bool,
     p: u64,
     pair: Pair,
@@ -63,8 +64,8 @@ fn round_beside(
 }
 
 // Whether the first operand has no more digits than are asked for, and a little less than it is taken up to it again.
-fn is_kept(mode: u8, negative: bool, p: u64, pair: Pair) -> bool
-    ensures { result ≡ true → (pair.first ≤ p) × (pair.same ≡ false → goes_up (way (mode_of mode) negative) Upper false ≡ true) }
+fn is_kept(mode: Mode, negative: bool, p: u64, pair: Pair) -> bool
+    ensures { result ≡ true → (pair.first ≤ p) × (pair.same ≡ false → goes_up (way mode negative) Upper false ≡ true) }
 {
     if p < pair.first {
         return false;
@@ -77,14 +78,14 @@ fn is_kept(mode: u8, negative: bool, p: u64, pair: Pair) -> bool
 
 // Rounds the same where it is so: the first operand's limbs, perhaps with the last unit.
 fn round_kept(
-    mode: u8,
+    mode: Mode,
     negative: bool,
     p: u64,
     pair: Pair,
     first: &[u64],
     target: &mut [u64],
 ) -> Placed
-    requires { Alone p pair first.now target.old × (pair.first ≤ p) × (pair.same ≡ false → goes_up (way (mode_of mode) negative) Upper false ≡ true) }
+    requires { Alone p pair first.now target.old × (pair.first ≤ p) × (pair.same ≡ false → goes_up (way mode negative) Upper false ≡ true) }
     ensures { Answered mode p negative pair first.now result target.new }
 {
     copy(target, first);
@@ -95,7 +96,14 @@ fn round_kept(
 }
 
 // Rounds the first operand and a little more, or a little less.
-fn round(mode: u8, negative: bool, p: u64, pair: Pair, first: &[u64], target: &mut [u64]) -> Placed
+fn round(
+    mode: Mode,
+    negative: bool,
+    p: u64,
+    pair: Pair,
+    first: &[u64],
+    target: &mut [u64],
+) -> Placed
     requires { Alone p pair first.now target.old }
     ensures { Answered mode p negative pair first.now result target.new }
 {
@@ -107,7 +115,7 @@ fn round(mode: u8, negative: bool, p: u64, pair: Pair, first: &[u64], target: &m
 
 // Adds two such numbers, where no refusal is near.
 pub fn attempt(
-    mode: u8,
+    mode: Mode,
     negative: bool,
     p: u64,
     pair: Pair,
@@ -117,7 +125,7 @@ pub fn attempt(
     target: &mut [u64],
 ) -> Attempt
     requires { Room p (length target.old) × Offered pair first.now second.now × (length first.now ≡ length target.old) × (64 * length target.old ≤ pair.gap) × (p + 1 < pair.gap) }
-    ensures { (length target.new ≡ length target.old) × (result.open ≡ false → (z w : Operand) → Holding z w pair first.now second.now → negative ≡ z.negative → Attempted (mode_of mode) p z w target.new result.negative result.placed result.depth (cond swapped result.second result.first) (cond swapped result.first result.second)) }
+    ensures { (length target.new ≡ length target.old) × (result.open ≡ false → (z w : Operand) → Holding z w pair first.now second.now → negative ≡ z.negative → Attempted mode p z w target.new result.negative result.placed result.depth (cond swapped result.second result.first) (cond swapped result.first result.second)) }
 {
     let n = target.len() as u64;
     if !descent::is_inland(pair, n - 1) {

@@ -7,7 +7,7 @@ use native.Mathlib.Omega.{arith}
 use Rattle.depth.proofs.Exchange.{top_exchange, result_exchange, deciding_exchange}
 use Rattle.numbers.specs.Operand.{Operand}
 use Rattle.numbers.proofs.Limits.{two_digits}
-use Rattle.rounding.specs.Mode.{Mode, mode_of}
+use Rattle.rounding.specs.declared.Mode.{Mode}
 use Rattle.rounding.specs.Answer.{Answer, zero_of, number, too_large, too_small}
 use Rattle.depth.specs.Columns.{top_exponent, limbs_used}
 use Rattle.depth.specs.Depth.{plus, result}
@@ -49,10 +49,10 @@ module _ (o : Mode) (p : ℕ) (P : 0 < p) (x y : Operand) (some : (x.is_zero && 
       }
 
 -- the sum of the two in the other order, its counts exchanged
-pub zero_first : (mode p n : ℕ) (x y : Operand) (exit : List ℕ) (s r : Sum) → Room p n → y.is_zero ≡ false → r ≡ exchanged_sum s
-    → Reported plus (mode_of mode) p y x exit s → Reported plus (mode_of mode) p x y exit r
+pub zero_first : (mode : Mode) (p n : ℕ) (x y : Operand) (exit : List ℕ) (s r : Sum) → Room p n → y.is_zero ≡ false → r ≡ exchanged_sum s
+    → Reported plus mode p y x exit s → Reported plus mode p x y exit r
 zero_first mode p n x y exit s r room b e d =
-    rw e (reported_exchanged (mode_of mode) p (omega (arith, two_digits, room.least)) x y (some x.is_zero y.is_zero b) exit s d)
+    rw e (reported_exchanged mode p (omega (arith, two_digits, room.least)) x y (some x.is_zero y.is_zero b) exit s d)
   where
     some : (u v : Bool) → v ≡ false → (u && v) ≡ false
     some true v f = f

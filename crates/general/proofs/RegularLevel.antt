@@ -14,7 +14,7 @@ use Prim.Native.Nat.{max, zero-le}
 use lib.ListN.{replicate}
 use Rattle.limb.specs.Value.{Below}
 use Rattle.numbers.specs.Operand.{Operand, WellFormed}
-use Rattle.rounding.specs.Mode.{Mode, mode_of}
+use Rattle.rounding.specs.declared.Mode.{Mode}
 use Rattle.rounding.specs.Answer.{zero_of}
 use Rattle.rounding.specs.Sum.{zero_sign}
 use Rattle.depth.specs.Depth.{plus, result}
@@ -24,6 +24,7 @@ use Rattle.columns.proofs.Reading.{read_fewer, read_early, column_whole}
 use Rattle.bridge.proofs.Decision.{leads}
 use Rattle.reports.specs.declared.report.Sum.{Sum}
 use Rattle.numbers.specs.Limits.{counted}
+use Rattle.rounding.specs.declared.Mode.TheVariants.{Nearest}
 use Rattle.checks.specs.declared.Number.{Number}
 use Rattle.checks.specs.Number.{operand_of}
 use Rattle.general.specs.declared.regular.Differ.{Differ}
@@ -157,9 +158,9 @@ level_turned x y l = record { first = l.second; second = l.first; first_regular 
 
 -- ---- exact cancellation
 
-module _ (mode p n : ℕ) (room : Room p n) (x y : Operand) (l : Level x y) (k : ℕ) (ke : k ≡ max (length x.limbs) (length y.limbs)) (e : read_to k 0 y.limbs ≡ read_to k 0 x.limbs) where
+module _ (mode : Mode) (p n : ℕ) (room : Room p n) (x y : Operand) (l : Level x y) (k : ℕ) (ke : k ≡ max (length x.limbs) (length y.limbs)) (e : read_to k 0 y.limbs ≡ read_to k 0 x.limbs) where
   abbrev o : Mode
-  o = mode_of mode
+  o = mode
 
   pub cancelled_reported : {exit : List ℕ} {s : Sum} {z : Bool} {u v : ℕ} → exit ≡ replicate n 0 → z ≡ zero_sign o x.negative y.negative → u ≡ used_of k 0 (length x.limbs) → v ≡ used_of k 0 (length y.limbs) → s ≡ sum_of (zero_of z) p k u v → Reported plus o p x y exit s
   unfolding result sum_of limbs_after
@@ -178,10 +179,10 @@ module _ (x : Number) (xl : List ℕ) (y : Number) (yl : List ℕ) (p n : ℕ) (
   module _ (l : Level (operand_of x xl) (operand_of y yl)) (r : Differ) (t : Differs xl yl r) (k : ℕ) where
     pub never_few : r ≡ Never k → k ≤ 2 ^ 20
     unfolding operand_of
-    never_few e = let d : Differs xl yl (Never k) = rw e at t in let a = few (mode_of 0) p n room (operand_of x xl) (operand_of y yl) l k d.0 d.1 in omega arith
+    never_few e = let d : Differs xl yl (Never k) = rw e at t in let a = few Nearest p n room (operand_of x xl) (operand_of y yl) l k d.0 d.1 in omega arith
 
-    pub never_reported : (mode : ℕ) {exit : List ℕ} {s : Sum} {z : Bool} {u v : ℕ} → r ≡ Never k → exit ≡ replicate n 0 → z ≡ zero_sign (mode_of mode) x.negative y.negative → u ≡ used_of k 0 (length xl) → v ≡ used_of k 0 (length yl) → s ≡ sum_of (zero_of z) p k u v
-        → Reported plus (mode_of mode) p (operand_of x xl) (operand_of y yl) exit s
+    pub never_reported : (mode : Mode) {exit : List ℕ} {s : Sum} {z : Bool} {u v : ℕ} → r ≡ Never k → exit ≡ replicate n 0 → z ≡ zero_sign mode x.negative y.negative → u ≡ used_of k 0 (length xl) → v ≡ used_of k 0 (length yl) → s ≡ sum_of (zero_of z) p k u v
+        → Reported plus mode p (operand_of x xl) (operand_of y yl) exit s
     unfolding operand_of
     never_reported mode e f zs us vs h = let d : Differs xl yl (Never k) = rw e at t in cancelled_reported mode p n room (operand_of x xl) (operand_of y yl) l k d.0 d.1 f zs us vs h
 

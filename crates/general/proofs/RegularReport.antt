@@ -9,7 +9,8 @@ use Rattle.depth.proofs.Place.{top_ordered}
 use Rattle.numbers.specs.Limits.{counted}
 use Rattle.numbers.specs.Operand.{Operand, WellFormed, zero_like}
 use Rattle.numbers.proofs.Digits.{zero_well_formed}
-use Rattle.rounding.specs.Mode.{Mode, mode_of, way}
+use Rattle.rounding.specs.Mode.{way}
+use Rattle.rounding.specs.declared.Mode.{Mode}
 use Rattle.rounding.specs.Answer.{Answer}
 use Rattle.rounding.specs.Sum.{add}
 use Rattle.depth.specs.Columns.{top_exponent, limbs_used}
@@ -48,17 +49,17 @@ top_single x z a b = rw (a, b) (go x.exponent)
     go : (n : ℕ) → 0 ≡ n - n
     go n = omega arith
 
-module _ (mode p n : ℕ) (room : Room p n) (x y : Operand) (from : ℕ) (course : Course x y from) (walked : Walked) (t : List ℕ) (st : Stopped (mode_of mode) p x y walked t) where
-  pub reported : {exit : List ℕ} {placed : Placed} {s : Sum} (u v : ℕ) → Left p (add (mode_of mode) p x y) exit placed
+module _ (mode : Mode) (p n : ℕ) (room : Room p n) (x y : Operand) (from : ℕ) (course : Course x y from) (walked : Walked) (t : List ℕ) (st : Stopped mode p x y walked t) where
+  pub reported : {exit : List ℕ} {placed : Placed} {s : Sum} (u v : ℕ) → Left p (add mode p x y) exit placed
       → ((a : Answer) → Signed x.negative a → placed ≡ placed_of a → s ≡ sum_of a p walked.columns u v)
       → u ≡ limbs_used (top_exponent x y) walked.columns x → v ≡ limbs_used (top_exponent x y) walked.columns y
-      → Reported plus (mode_of mode) p x y exit s
+      → Reported plus mode p x y exit s
   unfolding result
   reported {exit} {placed} {s} u v left told a b =
-      let e : s ≡ sum_of (add (mode_of mode) p x y) p walked.columns u v = told (add (mode_of mode) p x y) (signed_told mode p n room x y from course walked t st) left.told in
-      let k : s.depth ≡ walked.columns = ap (λ (q : Sum). q.depth) e ∙ sum_depth (add (mode_of mode) p x y) p walked.columns u v in
+      let e : s ≡ sum_of (add mode p x y) p walked.columns u v = told (add mode p x y) (signed_told mode p n room x y from course walked t st) left.told in
+      let k : s.depth ≡ walked.columns = ap (λ (q : Sum). q.depth) e ∙ sum_depth (add mode p x y) p walked.columns u v in
       record {
-        depth = subst (λ (j : ℕ). Depth plus (mode_of mode) p x y j) (sym k) (depth_told mode p n room x y from course walked t st);
+        depth = subst (λ (j : ℕ). Depth plus mode p x y j) (sym k) (depth_told mode p n room x y from course walked t st);
         bounded = rw k st.near;
         answer = e ∙ rw (a, b, k) refl;
         target = left.limbs;
@@ -114,13 +115,13 @@ unfolding operand_of
 limbs_are x xl = refl
 
 -- the walk of a number alone begins
-pub single_begun : (mode : ℕ) (x : Number) (xl : List ℕ) (by : Way) (c : ℕ) → WellFormed (operand_of x xl) → (operand_of x xl).is_zero ≡ false → theory_way by ≡ way (mode_of mode) x.negative → c ≡ counted x.exponent
+pub single_begun : (mode : Mode) (x : Number) (xl : List ℕ) (by : Way) (c : ℕ) → WellFormed (operand_of x xl) → (operand_of x xl).is_zero ≡ false → theory_way by ≡ way mode x.negative → c ≡ counted x.exponent
     → Begun by (record { same = true; first = x.precision; second = 0; gap = 0; top = c }) xl xl 0
 unfolding operand_of zero_like
 single_begun mode x xl by c g r wy ce =
     let none = zero_like (operand_of x xl) in
     record {
-      mode = mode_of mode;
+      mode = mode;
       larger = operand_of x xl;
       other = none;
       held = record { pair_is = single_pair x xl none c refl ce; first_is = refl; second_is = λ f. absurd (true≢false f); way_is = wy };
@@ -128,28 +129,28 @@ single_begun mode x xl by c g r wy ce =
     }
 
 -- and of two in order
-pub ordered_begun : (mode : ℕ) (x : Number) (xl : List ℕ) (y : Number) (yl : List ℕ) (from : ℕ) (by : Way) (c d : ℕ) → (operand_of y yl).is_zero ≡ false → Course (operand_of x xl) (operand_of y yl) from
-    → theory_way by ≡ way (mode_of mode) x.negative → c ≡ counted x.exponent → d ≡ counted y.exponent
+pub ordered_begun : (mode : Mode) (x : Number) (xl : List ℕ) (y : Number) (yl : List ℕ) (from : ℕ) (by : Way) (c d : ℕ) → (operand_of y yl).is_zero ≡ false → Course (operand_of x xl) (operand_of y yl) from
+    → theory_way by ≡ way mode x.negative → c ≡ counted x.exponent → d ≡ counted y.exponent
     → Begun by (record { same = beq x.negative y.negative; first = x.precision; second = y.precision; gap = c - d; top = c }) xl yl from
 unfolding operand_of
 ordered_begun mode x xl y yl from by c d ye course wy ce de =
     record {
-      mode = mode_of mode;
+      mode = mode;
       larger = operand_of x xl;
       other = operand_of y yl;
       held = record { pair_is = ordered_pair x xl y yl c d ye ce de; first_is = refl; second_is = λ f. refl; way_is = wy };
       course = course;
     }
 
-module _ (mode p : ℕ) (x : Number) (xl : List ℕ) (by : Way) (c : ℕ) (walked : Walked) (entry t : List ℕ)
-    (g : WellFormed (operand_of x xl)) (r : (operand_of x xl).is_zero ≡ false) (room : Room p (length entry)) (wy : theory_way by ≡ way (mode_of mode) x.negative) (ce : c ≡ counted x.exponent) (len : length t ≡ length entry)
+module _ (mode : Mode) (p : ℕ) (x : Number) (xl : List ℕ) (by : Way) (c : ℕ) (walked : Walked) (entry t : List ℕ)
+    (g : WellFormed (operand_of x xl)) (r : (operand_of x xl).is_zero ≡ false) (room : Room p (length entry)) (wy : theory_way by ≡ way mode x.negative) (ce : c ≡ counted x.exponent) (len : length t ≡ length entry)
     (stops : (o : Mode) (u v : Operand) → Course u v 0 → record { same = true; first = x.precision; second = 0; gap = 0; top = c } ≡ pair_of u v → xl ≡ u.limbs → (v.is_zero ≡ false → xl ≡ v.limbs) → theory_way by ≡ way o u.negative → Stopped o p u v walked t) where
   abbrev X : Operand
   X = operand_of x xl
 
-  single_stopped : (z : Operand) → WellFormed z → z.is_zero ≡ true → Stopped (mode_of mode) p X z walked t
+  single_stopped : (z : Operand) → WellFormed z → z.is_zero ≡ true → Stopped mode p X z walked t
   unfolding operand_of
-  single_stopped z h e = stops (mode_of mode) X z (single_course X z g r h e) (single_pair x xl z c e ce) (limbs_are x xl) (λ f. absurd (true≢false (sym e ∙ f))) wy
+  single_stopped z h e = stops mode X z (single_course X z g r h e) (single_pair x xl z c e ce) (limbs_are x xl) (λ f. absurd (true≢false (sym e ∙ f))) wy
 
   none : Operand
   none = zero_like X
@@ -173,29 +174,29 @@ module _ (mode p : ℕ) (x : Number) (xl : List ℕ) (by : Way) (c : ℕ) (walke
   -- what the walk's end leaves
   abbrev SingleEnds : List ℕ → Placed → Type 0
   SingleEnds exit placed =
-      (v z : Operand) (from : ℕ) → Course v z from → record { same = true; first = x.precision; second = 0; gap = 0; top = c } ≡ pair_of v z → x.negative ≡ v.negative → Stopped (mode_of mode) p v z walked t → Left p (add (mode_of mode) p v z) exit placed
+      (v z : Operand) (from : ℕ) → Course v z from → record { same = true; first = x.precision; second = 0; gap = 0; top = c } ≡ pair_of v z → x.negative ≡ v.negative → Stopped mode p v z walked t → Left p (add mode p v z) exit placed
 
-  single_left : {exit : List ℕ} {placed : Placed} → SingleEnds exit placed → (z : Operand) → WellFormed z → z.is_zero ≡ true → Left p (add (mode_of mode) p X z) exit placed
+  single_left : {exit : List ℕ} {placed : Placed} → SingleEnds exit placed → (z : Operand) → WellFormed z → z.is_zero ≡ true → Left p (add mode p X z) exit placed
   unfolding operand_of
   single_left left z h e = left X z 0 (single_course X z g r h e) (single_pair x xl z c e ce) refl (single_stopped z h e)
 
   pub single_ranged : {exit : List ℕ} {placed : Placed} → SingleEnds exit placed → Ranged placed
-  single_ranged left = sum_ranged (mode_of mode) p X none _ (single_left left none none_formed none_zero).told
+  single_ranged left = sum_ranged mode p X none _ (single_left left none none_formed none_zero).told
 
   pub single_reported : {exit : List ℕ} {placed : Placed} {s : Sum} {u : ℕ} → SingleEnds exit placed
       → u ≡ used_of walked.columns 0 (length xl) → ((a : Answer) → Signed x.negative a → placed ≡ placed_of a → s ≡ sum_of a p walked.columns u 0)
-      → (z : Operand) → WellFormed z → z.is_zero ≡ true → Reported plus (mode_of mode) p X z exit s
+      → (z : Operand) → WellFormed z → z.is_zero ≡ true → Reported plus mode p X z exit s
   unfolding operand_of
   single_reported {exit} {placed} {s} {u} left us told z h e =
       reported mode p (length entry) room X z 0 (single_course X z g r h e) walked t (single_stopped z h e) u 0 (single_left left z h e) told
       (us ∙ used_is X (top_exponent X z) walked.columns 0 g r (top_single X z r e)) (used_zero z (top_exponent X z) walked.columns e)
 
-module _ (mode p : ℕ) (x : Number) (xl : List ℕ) (y : Number) (yl : List ℕ) (from : ℕ) (by : Way) (c d : ℕ) (walked : Walked) (entry t : List ℕ)
-    (ye : (operand_of y yl).is_zero ≡ false) (course : Course (operand_of x xl) (operand_of y yl) from) (room : Room p (length entry)) (wy : theory_way by ≡ way (mode_of mode) x.negative) (ce : c ≡ counted x.exponent) (de : d ≡ counted y.exponent) (len : length t ≡ length entry)
+module _ (mode : Mode) (p : ℕ) (x : Number) (xl : List ℕ) (y : Number) (yl : List ℕ) (from : ℕ) (by : Way) (c d : ℕ) (walked : Walked) (entry t : List ℕ)
+    (ye : (operand_of y yl).is_zero ≡ false) (course : Course (operand_of x xl) (operand_of y yl) from) (room : Room p (length entry)) (wy : theory_way by ≡ way mode x.negative) (ce : c ≡ counted x.exponent) (de : d ≡ counted y.exponent) (len : length t ≡ length entry)
     (stops : (o : Mode) (u v : Operand) → Course u v from → record { same = beq x.negative y.negative; first = x.precision; second = y.precision; gap = c - d; top = c } ≡ pair_of u v → xl ≡ u.limbs → (v.is_zero ≡ false → yl ≡ v.limbs) → theory_way by ≡ way o u.negative → Stopped o p u v walked t) where
-  both_stopped : Stopped (mode_of mode) p (operand_of x xl) (operand_of y yl) walked t
+  both_stopped : Stopped mode p (operand_of x xl) (operand_of y yl) walked t
   unfolding operand_of
-  both_stopped = stops (mode_of mode) (operand_of x xl) (operand_of y yl) course (ordered_pair x xl y yl c d ye ce de) (limbs_are x xl) (λ f. limbs_are y yl) wy
+  both_stopped = stops mode (operand_of x xl) (operand_of y yl) course (ordered_pair x xl y yl c d ye ce de) (limbs_are x xl) (λ f. limbs_are y yl) wy
 
   pub ordered_ending : Ending p c walked.window t
   ordered_ending =
@@ -207,18 +208,18 @@ module _ (mode p : ℕ) (x : Number) (xl : List ℕ) (y : Number) (yl : List ℕ
   -- what the walk's end leaves
   abbrev OrderedEnds : List ℕ → Placed → Type 0
   OrderedEnds exit placed =
-      (v z : Operand) (from : ℕ) → Course v z from → record { same = beq x.negative y.negative; first = x.precision; second = y.precision; gap = c - d; top = c } ≡ pair_of v z → x.negative ≡ v.negative → Stopped (mode_of mode) p v z walked t → Left p (add (mode_of mode) p v z) exit placed
+      (v z : Operand) (from : ℕ) → Course v z from → record { same = beq x.negative y.negative; first = x.precision; second = y.precision; gap = c - d; top = c } ≡ pair_of v z → x.negative ≡ v.negative → Stopped mode p v z walked t → Left p (add mode p v z) exit placed
 
-  ordered_left : {exit : List ℕ} {placed : Placed} → OrderedEnds exit placed → Left p (add (mode_of mode) p (operand_of x xl) (operand_of y yl)) exit placed
+  ordered_left : {exit : List ℕ} {placed : Placed} → OrderedEnds exit placed → Left p (add mode p (operand_of x xl) (operand_of y yl)) exit placed
   unfolding operand_of
   ordered_left left = left (operand_of x xl) (operand_of y yl) from course (ordered_pair x xl y yl c d ye ce de) refl both_stopped
 
   pub ordered_ranged : {exit : List ℕ} {placed : Placed} → OrderedEnds exit placed → Ranged placed
-  ordered_ranged left = sum_ranged (mode_of mode) p (operand_of x xl) (operand_of y yl) _ (ordered_left left).told
+  ordered_ranged left = sum_ranged mode p (operand_of x xl) (operand_of y yl) _ (ordered_left left).told
 
   pub ordered_reported : {exit : List ℕ} {placed : Placed} {s : Sum} {i j : ℕ} → OrderedEnds exit placed
       → i ≡ used_of walked.columns 0 (length xl) → j ≡ used_of walked.columns (c - d) (length yl) → ((a : Answer) → Signed x.negative a → placed ≡ placed_of a → s ≡ sum_of a p walked.columns i j)
-      → Reported plus (mode_of mode) p (operand_of x xl) (operand_of y yl) exit s
+      → Reported plus mode p (operand_of x xl) (operand_of y yl) exit s
   unfolding operand_of
   ordered_reported {exit} {placed} {s} {i} {j} left us vs told =
       reported mode p (length entry) room (operand_of x xl) (operand_of y yl) from course walked t both_stopped i j (ordered_left left) told

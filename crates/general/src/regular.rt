@@ -1,7 +1,6 @@
 // Sums of regular numbers.
 ghost use Rattle.std.specs.Prelude.{◌≡◌, true, false, ◌≤◌, max, length};
 ghost use Rattle.numbers.specs.Operand.{Operand, WellFormed};
-ghost use Rattle.rounding.specs.Mode.{mode_of};
 ghost use Rattle.depth.specs.Depth.{plus};
 ghost use Rattle.checks.specs.Number.{operand_of};
 ghost use Rattle.reports.specs.Summed.{Reported};
@@ -12,12 +11,13 @@ ghost use Rattle.general.specs.Differs.{Differs};
 
 use checks::Number;
 use reports::Sum;
+use rounding::Mode;
 use settle::Pair;
 
 // A regular number and a zero, whichever zero it is.
-pub fn single(mode: u8, x: Number, xl: &[u64], p: u64, target: &mut [u64]) -> Sum
-    requires { (mode ≤ 3) × WellFormed (operand_of x xl.now) × ((operand_of x xl.now).is_zero ≡ false) × Room p (length target.old) }
-    ensures { (z : Operand) → WellFormed z → z.is_zero ≡ true → Reported plus (mode_of mode) p (operand_of x xl.now) z target.new result }
+pub fn single(mode: Mode, x: Number, xl: &[u64], p: u64, target: &mut [u64]) -> Sum
+    requires { WellFormed (operand_of x xl.now) × ((operand_of x xl.now).is_zero ≡ false) × Room p (length target.old) }
+    ensures { (z : Operand) → WellFormed z → z.is_zero ≡ true → Reported plus mode p (operand_of x xl.now) z target.new result }
 {
     let negative = x.negative;
     let pair = Pair {
@@ -35,7 +35,7 @@ pub fn single(mode: u8, x: Number, xl: &[u64], p: u64, target: &mut [u64]) -> Su
 
 // Two regular numbers in order, the first larger from a column on where their signs are unlike.
 fn ordered(
-    mode: u8,
+    mode: Mode,
     x: Number,
     xl: &[u64],
     y: Number,
@@ -45,7 +45,7 @@ fn ordered(
     target: &mut [u64],
 ) -> Sum
     requires { ((operand_of y yl.now).is_zero ≡ false) × Course (operand_of x xl.now) (operand_of y yl.now) from × Room p (length target.old) }
-    ensures { Reported plus (mode_of mode) p (operand_of x xl.now) (operand_of y yl.now) target.new result }
+    ensures { Reported plus mode p (operand_of x xl.now) (operand_of y yl.now) target.new result }
 {
     let negative = x.negative;
     let top = checks::counted_exponent(x.exponent);
@@ -133,9 +133,17 @@ fn first_difference(x: Number, xl: &[u64], y: Number, yl: &[u64]) -> Differ
 }
 
 // Two regular numbers of one exponent and unlike signs.
-fn unlike(mode: u8, x: Number, xl: &[u64], y: Number, yl: &[u64], p: u64, target: &mut [u64]) -> Sum
+fn unlike(
+    mode: Mode,
+    x: Number,
+    xl: &[u64],
+    y: Number,
+    yl: &[u64],
+    p: u64,
+    target: &mut [u64],
+) -> Sum
     requires { Level (operand_of x xl.now) (operand_of y yl.now) × Room p (length target.old) }
-    ensures { Reported plus (mode_of mode) p (operand_of x xl.now) (operand_of y yl.now) target.new result }
+    ensures { Reported plus mode p (operand_of x xl.now) (operand_of y yl.now) target.new result }
 {
     let d = first_difference(x, xl, y, yl);
     match d {
@@ -157,7 +165,7 @@ fn unlike(mode: u8, x: Number, xl: &[u64], y: Number, yl: &[u64], p: u64, target
 
 // Two regular numbers.
 pub fn both(
-    mode: u8,
+    mode: Mode,
     x: Number,
     xl: &[u64],
     y: Number,
@@ -165,8 +173,8 @@ pub fn both(
     p: u64,
     target: &mut [u64],
 ) -> Sum
-    requires { (mode ≤ 3) × WellFormed (operand_of x xl.now) × ((operand_of x xl.now).is_zero ≡ false) × WellFormed (operand_of y yl.now) × ((operand_of y yl.now).is_zero ≡ false) × Room p (length target.old) }
-    ensures { Reported plus (mode_of mode) p (operand_of x xl.now) (operand_of y yl.now) target.new result }
+    requires { WellFormed (operand_of x xl.now) × ((operand_of x xl.now).is_zero ≡ false) × WellFormed (operand_of y yl.now) × ((operand_of y yl.now).is_zero ≡ false) × Room p (length target.old) }
+    ensures { Reported plus mode p (operand_of x xl.now) (operand_of y yl.now) target.new result }
 {
     let a = checks::counted_exponent(x.exponent);
     let b = checks::counted_exponent(y.exponent);

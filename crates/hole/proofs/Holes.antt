@@ -21,7 +21,8 @@ use Rattle.numbers.proofs.Digits.{digits_and_spare, precision_two}
 use Rattle.numbers.proofs.Limits.{limbs_fewest}
 use Rattle.checks.proofs.Form.{spare_low}
 use Rattle.checks.proofs.Tests.{spare_lt}
-use Rattle.rounding.specs.Mode.{Mode, way}
+use Rattle.rounding.specs.Mode.{way}
+use Rattle.rounding.specs.declared.Mode.{Mode}
 use Rattle.rounding.specs.Mode as mode
 use Rattle.rounding.proofs.Order.{le_or_lt}
 use Rattle.limb.proofs.Sizes.{size_is}

@@ -4,7 +4,8 @@ use Rattle.std.specs.Bool.{beq}
 use Rattle.limb.specs.Value.{value_of}
 use Rattle.numbers.specs.Limits.{limbs_for}
 use Rattle.numbers.specs.Operand.{spare_bits}
-use Rattle.rounding.specs.Mode.{Mode, way}
+use Rattle.rounding.specs.Mode.{way}
+use Rattle.rounding.specs.declared.Mode.{Mode}
 use Rattle.settle.specs.Ways.{theory_way}
 use Rattle.settle.specs.declared.rows.Pair.{Pair}
 use Rattle.settle.specs.declared.rows.Way.{Way}

@@ -5,7 +5,7 @@ ghost use Rattle.std.specs.Prelude.{◌≡◌, Bool, cond, ◌+◌, ◌-◌, ◌
 ghost use Rattle.std.specs.Float.Ieee.{size};
 ghost use Rattle.limb.specs.Value.{value_of};
 ghost use Rattle.numbers.specs.Operand.{spare_bits};
-ghost use Rattle.rounding.specs.Mode.{Mode};
+ghost use Rattle.rounding.specs.declared.Mode.{Mode};
 ghost use Rattle.decide.specs.Table.{odd?, hole?, hole_by_size};
 ghost use Rattle.settle.specs.Ways.{theory_way};
 ghost use Rattle.hole.specs.Hole.{Formed, InHole, Signs};

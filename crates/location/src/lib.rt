@@ -3,13 +3,15 @@
 
 ghost use Rattle.std.specs.Prelude.{◌≡◌, false, ◌+◌, ◌*◌, ◌%◌, ◌^◌, ◌≤◌, ◌<◌};
 ghost use Rattle.limb.specs.Carry.{bit};
-ghost use Rattle.rounding.specs.Mode.{over, mode_of, way};
+ghost use Rattle.rounding.specs.Mode.{way};
 ghost use Rattle.rounding.specs.Answer.{signed};
 ghost use Rattle.location.specs.Ternary.{ternary_of};
-ghost use Rattle.location.specs.Location.{location_of, goes_out, goes_up, inexact, side};
+ghost use Rattle.location.specs.Location.{location_of, goes_up, side};
+
+use rounding::Mode;
 
 // Nothing below the last kept digit, or something below, at or above the middle.
-#[derive(Clone, Copy)]
+#[derive(Clone, Copy, Debug, PartialEq, Eq)]
 pub enum Location {
     Exact,
     Lower,
@@ -56,71 +58,32 @@ pub fn locate(low: u64, guard: u64, width: u64, more: bool) -> Location
     }
 }
 
-// Whether anything is left: whether a way away from zero adds the last unit.
-fn is_off(at: Location) -> bool
-    ensures { result ≡ goes_up over at false }
-{
-    match at {
-        Location::Exact => false,
-        Location::Lower => true,
-        Location::Tie => true,
-        Location::Upper => true,
-    }
-}
-
-// Whether a mode takes what is not exact away from zero, nearest apart.
-fn goes_out(mode: u8, negative: bool) -> bool
-    ensures { result ≡ goes_out (way (mode_of mode) negative) }
-{
-    if mode < 2 {
-        return false;
-    }
-    if mode == 2 {
-        return !negative;
-    }
-    negative
-}
-
 // Whether the last unit is added.
-pub fn rounds_up(mode: u8, negative: bool, at: Location, odd: bool) -> bool
-    ensures { result ≡ goes_up (way (mode_of mode) negative) at odd }
+#[tactic(auto, unfolding(crate::specs::Location::goes_up, rounding::specs::Mode::way))]
+pub fn rounds_up(mode: Mode, negative: bool, at: Location, odd: bool) -> bool
+    ensures { result ≡ goes_up (way mode negative) at odd }
 {
-    if mode == 0 {
-        return match at {
-            Location::Exact => false,
-            Location::Lower => false,
-            Location::Tie => odd,
-            Location::Upper => true,
-        };
+    match (mode, at) {
+        (_, Location::Exact) => false,
+        (Mode::Nearest, Location::Lower) => false,
+        (Mode::Nearest, Location::Tie) => odd,
+        (Mode::Nearest, Location::Upper) => true,
+        (Mode::Zeroward, _) => false,
+        (Mode::Upward, _) => !negative,
+        (Mode::Downward, _) => negative,
     }
-    if !is_off(at) {
-        return false;
-    }
-    goes_out(mode, negative)
-}
-
-// The ternary value of what is not exact.
-fn leaning(negative: bool, up: bool) -> i8
-    ensures { result ≡ ternary_of (signed negative (inexact up)) }
-{
-    if up {
-        if negative {
-            return -1;
-        }
-        return 1;
-    }
-    if negative {
-        return 1;
-    }
-    -1
 }
 
 // The ternary value: the sign of selected minus exact.
+#[tactic(auto, unfolding(crate::specs::Ternary::ternary_of, rounding::specs::Answer::signed, crate::specs::Location::side, crate::specs::Location::inexact))]
 pub fn ternary(negative: bool, at: Location, up: bool) -> i8
     ensures { result ≡ ternary_of (signed negative (side at up)) }
 {
-    if !is_off(at) {
-        return 0;
+    match (at, negative, up) {
+        (Location::Exact, _, _) => 0,
+        (_, false, true) => 1,
+        (_, true, false) => 1,
+        (_, false, false) => -1,
+        (_, true, true) => -1,
     }
-    leaning(negative, up)
 }

@@ -9,7 +9,7 @@ use lib.ListN.{replicate}
 use Rattle.numbers.specs.Limits.{limbs_for}
 use Rattle.numbers.specs.Operand.{Operand}
 use Rattle.numbers.proofs.Limits.{two_digits}
-use Rattle.rounding.specs.Mode.{Mode, mode_of}
+use Rattle.rounding.specs.declared.Mode.{Mode}
 use Rattle.rounding.specs.Answer.{Answer, zero_of}
 use Rattle.rounding.specs.Sum.{add, zero_sign}
 use Rattle.depth.proofs.Bounds.{deepest_today}
@@ -40,9 +40,9 @@ two_signs o true false e = refl
 two_signs o false true e = refl
 two_signs o false false e = absurd (true≢false e)
 
-module _ (p : ℕ) (pair : Pair) (u v : ℕ) (f : Facing p pair u) (k : AllKept p pair) (level : u ≡ v / 2 ^ pair.gap) (mode : ℕ) (x y : Operand) (h : Held x y pair u v) where
+module _ (p : ℕ) (pair : Pair) (u v : ℕ) (f : Facing p pair u) (k : AllKept p pair) (level : u ≡ v / 2 ^ pair.gap) (mode : Mode) (x y : Operand) (h : Held x y pair u v) where
   abbrev o : Mode
-  o = mode_of mode
+  o = mode
 
   positive : 0 < p
   positive = omega (arith, two_digits, f.least)

@@ -13,7 +13,7 @@ use Rattle.depth.proofs.Exchange.{top_exchange, deciding_exchange}
 use Rattle.numbers.specs.Limits.{counted, least_precision, limbs_for}
 use Rattle.numbers.specs.Operand.{Operand, WellFormed}
 use Rattle.numbers.proofs.Limits.{two_digits}
-use Rattle.rounding.specs.Mode.{Mode, mode_of}
+use Rattle.rounding.specs.declared.Mode.{Mode}
 use Rattle.rounding.specs.Answer.{Answer}
 use Rattle.rounding.specs.Sum.{add}
 use Rattle.rounding.proofs.Order.{le_or_lt}
@@ -101,9 +101,9 @@ module _ (o : Mode) (p : ℕ) (positive : 0 < p) (x y : Operand) (d : Ordered x 
       apart : (n : ℕ) → 0 ≡ n - n
       apart n = omega arith
 
-module _ (mode p : ℕ) (least : least_precision ≤ p) where
+module _ (mode : Mode) (p : ℕ) (least : least_precision ≤ p) where
   abbrev o : Mode
-  o = mode_of mode
+  o = mode
 
   positive : 0 < p
   positive = omega (arith, two_digits)
@@ -158,7 +158,7 @@ flag_told false = refl
 
 -- ---- as the code finds it
 
-module _ (mode p : ℕ) (least : least_precision ≤ p) (most : p ≤ 62) (x : Number) (xl : List ℕ) (y : Number) (yl : List ℕ)
+module _ (mode : Mode) (p : ℕ) (least : least_precision ≤ p) (most : p ≤ 62) (x : Number) (xl : List ℕ) (y : Number) (yl : List ℕ)
     (gx : WellFormed (operand_of x xl)) (rx : (operand_of x xl).is_zero ≡ false) (gy : WellFormed (operand_of y yl)) (ry : (operand_of y yl).is_zero ≡ false)
     (a b u v : ℕ) (ae : a ≡ counted x.exponent) (be : b ≡ counted y.exponent) (ue : u ≡ top_limb xl) (ve : v ≡ top_limb yl)
     (swapped : Bool) (order : (swapped ≡ true → a ≤ b) × (swapped ≡ false → b ≤ a)) (t l : ℕ) (te : t ≡ cond swapped b a) (le : l ≡ cond swapped a b) where
@@ -206,10 +206,10 @@ module _ (mode p : ℕ) (least : least_precision ≤ p) (most : p ≤ 62) (x : N
         }
 
     pub looked : (larger : Bool) (s : Seen) (i j : ℕ) → larger ≡ cond swapped y.negative x.negative → Says mode p least larger pair high deep s → i ≡ cond swapped (bool_byte (ltb (t - l) 64)) 1 → j ≡ cond swapped 1 (bool_byte (ltb (t - l) 64))
-        → s.open ≡ false → Looked (mode_of mode) p (operand_of x xl) (operand_of y yl) (record { seen = s; negative = s.negative; first = i; second = j })
+        → s.open ≡ false → Looked mode p (operand_of x xl) (operand_of y yl) (record { seen = s; negative = s.negative; first = i; second = j })
     looked larger s i j he says ie je closed = go swapped refl
       where
-        go : (w : Bool) → swapped ≡ w → Looked (mode_of mode) p (operand_of x xl) (operand_of y yl) (record { seen = s; negative = s.negative; first = i; second = j })
+        go : (w : Bool) → swapped ≡ w → Looked mode p (operand_of x xl) (operand_of y yl) (record { seen = s; negative = s.negative; first = i; second = j })
         go true f =
             rw (ie, je, f, flag_told (ltb (t - l) 64), te, le, f)
             (looked_turned mode p least (operand_of x xl) (operand_of y yl) rx ry s s.negative 1 (cond (ltb (b - a) 64) 1 0)

@@ -15,7 +15,7 @@ use Rattle.kept.proofs.OneLimb.{one_value}
 use Rattle.numbers.specs.Limits.{limbs_for}
 use Rattle.numbers.specs.Operand.{Operand, WellFormed, spare_bits}
 use Rattle.numbers.proofs.Limits.{two_digits}
-use Rattle.rounding.specs.Mode.{mode_of}
+use Rattle.rounding.specs.declared.Mode.{Mode}
 use Rattle.place.specs.declared.Placed.{Placed}
 use Rattle.place.specs.Placed.{run_rule}
 use Rattle.place.specs.Rounded.{rounded_placed, rounded_limbs}
@@ -124,6 +124,6 @@ module _ (p : ℕ) (pair : Pair) (u v : ℕ) (f : Facing p pair u) (k : AllKept 
 
     -- the limb that every mode rounds it to tells the sum
     pub exact_told : (limb : ℕ) (placed : Placed)
-        → (D % 2 ^ (64 - p) ≡ 0 → (mode : ℕ) (negative : Bool) → (placed ≡ rounded_placed mode p negative (pair.top - 128) false (D ∷ []) 0 false) × (limb ∷ [] ≡ rounded_limbs mode p negative (pair.top - 128) false (D ∷ []) 0 false))
-        → (mode : ℕ) (negative : Bool) (x y : Operand) → Held x y pair u v → negative ≡ x.negative → Told (mode_of mode) p x y negative limb placed
+        → (D % 2 ^ (64 - p) ≡ 0 → (mode : Mode) (negative : Bool) → (placed ≡ rounded_placed mode p negative (pair.top - 128) false (D ∷ []) 0 false) × (limb ∷ [] ≡ rounded_limbs mode p negative (pair.top - 128) false (D ∷ []) 0 false))
+        → (mode : Mode) (negative : Bool) (x y : Operand) → Held x y pair u v → negative ≡ x.negative → Told mode p x y negative limb placed
     exact_told limb placed settled mode negative x y h sign = let e = settled (clean x y h) mode negative in told p pair u v f column found mode negative limb placed e.0 e.1 x y h sign

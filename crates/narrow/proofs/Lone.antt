@@ -14,7 +14,8 @@ use Rattle.limb.specs.Carry.{bit}
 use Rattle.numbers.specs.Limits.{counted, least_precision}
 use Rattle.numbers.specs.Operand.{Operand, WellFormed}
 use Rattle.numbers.proofs.Limits.{two_digits}
-use Rattle.rounding.specs.Mode.{Mode, mode_of, way}
+use Rattle.rounding.specs.Mode.{way}
+use Rattle.rounding.specs.declared.Mode.{Mode}
 use Rattle.rounding.specs.Answer.{rounded}
 use Rattle.rounding.specs.Sum.{add}
 use Rattle.rounding.proofs.Order.{le_or_lt}
@@ -117,10 +118,10 @@ module _ (p top u : ℕ) (l : Lone p top u) where
         go true e = exact_says p positive o x z d lead (whole_row x z b.zero (length_is e))
         go false e = unread_says p positive o x z d lead (rw D (beyond (sym (ap (λ (t : Bool). t || rest) e) ∙ fixed))) (long_row x z b.zero (length_is e))
 
-    pub alone_told : (mode : ℕ) (negative : Bool) (limb : ℕ) (placed : Placed) → placed ≡ rounded_placed mode p negative (top - 128) false (u ∷ []) 0 false → limb ∷ [] ≡ rounded_limbs mode p negative (top - 128) false (u ∷ []) 0 false
-        → (x z : Operand) → Beside x z first top u → negative ≡ x.negative → Told (mode_of mode) p x z negative limb placed
+    pub alone_told : (mode : Mode) (negative : Bool) (limb : ℕ) (placed : Placed) → placed ≡ rounded_placed mode p negative (top - 128) false (u ∷ []) 0 false → limb ∷ [] ≡ rounded_limbs mode p negative (top - 128) false (u ∷ []) 0 false
+        → (x z : Operand) → Beside x z first top u → negative ≡ x.negative → Told mode p x z negative limb placed
     alone_told mode negative limb placed e g x z b sign =
-        run_told p l.least l.most top l.low l.high false u some 0 false mode negative limb placed e g x z b.exponent_is sign (says (mode_of mode) x z b)
+        run_told p l.least l.most top l.low l.high false u some 0 false mode negative limb placed e g x z b.exponent_is sign (says mode x z b)
 
 -- ---- as the code finds it
 
@@ -129,18 +130,18 @@ module _ (p : ℕ) (least : least_precision ≤ p) (most : p ≤ 62) (x : Number
   unfolding operand_of
   lone = record { least = least; most = most; led = rw ue (top_led (operand_of x xl) g r); low = rw te (g.regular r).least; high = rw te (g.regular r).most }
 
-  pub alone_looked : (mode : ℕ) (s : Seen) → (s.open ≡ false → (v z : Operand) → Beside v z x.precision top u → x.negative ≡ v.negative → Told (mode_of mode) p v z s.negative s.limb s.placed)
-      → s.open ≡ false → (z : Operand) → WellFormed z → z.is_zero ≡ true → Looked (mode_of mode) p (operand_of x xl) z (record { seen = s; negative = s.negative; first = 1; second = 0 })
+  pub alone_looked : (mode : Mode) (s : Seen) → (s.open ≡ false → (v z : Operand) → Beside v z x.precision top u → x.negative ≡ v.negative → Told mode p v z s.negative s.limb s.placed)
+      → s.open ≡ false → (z : Operand) → WellFormed z → z.is_zero ≡ true → Looked mode p (operand_of x xl) z (record { seen = s; negative = s.negative; first = 1; second = 0 })
   unfolding operand_of
   alone_looked mode s says closed z h zero =
       let P : 0 < p = omega (arith, two_digits, least) in
       let d : Ordered (operand_of x xl) z = record { first = g; second = h; regular = r; order = λ e. absurd (true≢false (sym zero ∙ e)) } in
       let t = says closed (operand_of x xl) z (record { formed = g; regular = r; other = h; zero = zero; precision_is = refl; exponent_is = te; limb_is = ue }) refl in
       record {
-        depth = depth_one (mode_of mode) p P (operand_of x xl) z d t.fixed;
+        depth = depth_one mode p P (operand_of x xl) z d t.fixed;
         left = t.left;
         signed = t.signed;
-        first = first_used (mode_of mode) p P (operand_of x xl) z d;
+        first = first_used mode p P (operand_of x xl) z d;
         second = unused z (top_exponent (operand_of x xl) z) zero;
       }
     where

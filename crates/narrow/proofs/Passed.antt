@@ -9,9 +9,10 @@ use lib.Dec.{ltb, leb, eqb}
 use Rattle.numbers.specs.Limits.{bias, least_precision, most_precision, least_exponent, most_exponent, limbs_for}
 use Rattle.numbers.specs.Operand.{Operand}
 use Rattle.numbers.proofs.Limits.{two_digits}
-use Rattle.rounding.specs.Mode.{mode_of, way}
+use Rattle.rounding.specs.Mode.{way}
 use Rattle.rounding.specs.Answer.{rounded}
 use Rattle.rounding.specs.Sum.{add}
+use Rattle.rounding.specs.declared.Mode.{Mode}
 use Rattle.decide.specs.Decide.{decide_at}
 use Rattle.place.specs.declared.Placed.{Placed}
 use Rattle.place.specs.Placed.{run_number, run_answer, run_rule, placed_of, limbs_after}
@@ -62,10 +63,10 @@ module _ (p : ℕ) (least : least_precision ≤ p) (most : p ≤ 62) (top : ℕ)
     abbrev N : ℕ
     N = run_number carry (limb ∷ []) guard more
 
-    pub run_told : (mode : ℕ) (negative : Bool) (left : ℕ) (placed : Placed) → placed ≡ rounded_placed mode p negative unit carry (limb ∷ []) guard more → left ∷ [] ≡ rounded_limbs mode p negative unit carry (limb ∷ []) guard more
+    pub run_told : (mode : Mode) (negative : Bool) (left : ℕ) (placed : Placed) → placed ≡ rounded_placed mode p negative unit carry (limb ∷ []) guard more → left ∷ [] ≡ rounded_limbs mode p negative unit carry (limb ∷ []) guard more
         → (x y : Operand) → top ≡ x.exponent → negative ≡ x.negative
-        → (decide_at (mode_of mode) p x y 1 ≡ true) × (add (mode_of mode) p x y ≡ rounded (way (mode_of mode) x.negative) p (x.exponent - 128 - 1) x.negative N)
-        → Told (mode_of mode) p x y negative left placed
+        → (decide_at mode p x y 1 ≡ true) × (add mode p x y ≡ rounded (way mode x.negative) p (x.exponent - 128 - 1) x.negative N)
+        → Told mode p x y negative left placed
     unfolding run_answer
     run_told mode negative left placed e g x y height sign says =
         record {
@@ -77,7 +78,7 @@ module _ (p : ℕ) (least : least_precision ≤ p) (most : p ≤ 62) (top : ℕ)
           signed = rw (sign, says.1) (rounded_signed _ _ _ _ _);
         }
       where
-        is : run_answer mode p negative unit N ≡ add (mode_of mode) p x y
+        is : run_answer mode p negative unit N ≡ add mode p x y
         is =
-            ap (λ (n : ℕ). rounded (way (mode_of mode) negative) p (n - 128 - 1) negative N) height
-            ∙ ap (λ (b : Bool). rounded (way (mode_of mode) b) p (x.exponent - 128 - 1) b N) sign ∙ sym says.1
+            ap (λ (n : ℕ). rounded (way mode negative) p (n - 128 - 1) negative N) height
+            ∙ ap (λ (b : Bool). rounded (way mode b) p (x.exponent - 128 - 1) b N) sign ∙ sym says.1

@@ -20,7 +20,8 @@ use Rattle.limb.proofs.Carry.{bit_byte}
 use Rattle.numbers.specs.Limits.{bias, most_precision, most_exponent}
 use Rattle.numbers.proofs.Limits.{two_digits}
 use Rattle.numbers.specs.Operand.{Operand}
-use Rattle.rounding.specs.Mode.{Mode, way}
+use Rattle.rounding.specs.Mode.{way}
+use Rattle.rounding.specs.declared.Mode.{Mode}
 use Rattle.rounding.specs.Answer.{rounded}
 use Rattle.rounding.specs.Sum.{add}
 use Rattle.decide.specs.Decide.{decide_at}

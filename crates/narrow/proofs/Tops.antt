@@ -6,7 +6,7 @@ use Prim.Native.Nat.{ℕ, ◌+◌, ◌-◌, ◌/◌, ◌^◌, ◌≤◌, ◌<◌
 use lib.ListN.{length}
 use Rattle.limb.specs.Value.{Below}
 use Rattle.numbers.specs.Operand.{Operand, WellFormed}
-use Rattle.rounding.specs.Mode.{mode_of}
+use Rattle.rounding.specs.declared.Mode.{Mode}
 use Rattle.checks.proofs.Form.{lead_top_bit}
 use Rattle.place.specs.declared.Placed.{Placed}
 use Rattle.place.specs.Placed.{run_rule}
@@ -78,8 +78,8 @@ module _ (p : ℕ) (pair : Pair) (u v : ℕ) (f : Facing p pair u) (r : Column) 
   pub run_passes : run_rule p r.carry (r.limb ∷ []) (pair.top - 128) ≡ 0
   run_passes = passes p f.least f.most pair.top f.low f.high r.carry r.limb found.settles.led
 
-  pub told : (mode : ℕ) (negative : Bool) (limb : ℕ) (placed : Placed) → placed ≡ rounded_placed mode p negative (pair.top - 128) r.carry (r.limb ∷ []) r.guard r.more
-      → limb ∷ [] ≡ rounded_limbs mode p negative (pair.top - 128) r.carry (r.limb ∷ []) r.guard r.more → (x y : Operand) → Held x y pair u v → negative ≡ x.negative → Told (mode_of mode) p x y negative limb placed
+  pub told : (mode : Mode) (negative : Bool) (limb : ℕ) (placed : Placed) → placed ≡ rounded_placed mode p negative (pair.top - 128) r.carry (r.limb ∷ []) r.guard r.more
+      → limb ∷ [] ≡ rounded_limbs mode p negative (pair.top - 128) r.carry (r.limb ∷ []) r.guard r.more → (x y : Operand) → Held x y pair u v → negative ≡ x.negative → Told mode p x y negative limb placed
   told mode negative limb placed e g x y h sign =
       run_told p f.least f.most pair.top f.low f.high r.carry r.limb found.settles.led r.guard r.more mode negative limb placed e g x y (ap (λ (s : Pair). s.top) h.pair_is ∙ pair_top x y) sign
-      (found.settles.answers (mode_of mode) x y h.ordered h.regular h.pair_is (leads x y pair u v h found.ahead) (read_is x y pair u v h))
+      (found.settles.answers mode x y h.ordered h.regular h.pair_is (leads x y pair u v h found.ahead) (read_is x y pair u v h))

@@ -1,7 +1,7 @@
 -- What a look at two operands, or at one beside a zero, tells where it is not left open. Definitions only.
 use Rattle.std.specs.Prelude.{ℕ, ◌≡◌, [], ◌∷◌}
 use Rattle.numbers.specs.Operand.{Operand}
-use Rattle.rounding.specs.Mode.{Mode}
+use Rattle.rounding.specs.declared.Mode.{Mode}
 use Rattle.rounding.specs.Sum.{add}
 use Rattle.depth.specs.Columns.{top_exponent, limbs_used}
 use Rattle.depth.specs.Depth.{plus, Depth}

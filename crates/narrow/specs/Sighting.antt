@@ -2,7 +2,7 @@
 use Rattle.std.specs.Prelude.{ℕ, ◌+◌, ◌-◌, ◌^◌, ◌≤◌, ◌<◌, ◌≡◌, Bool, true, false, List, [], ◌∷◌, length, get_or}
 use Rattle.numbers.specs.Limits.{least_precision, most_precision, least_exponent, most_exponent}
 use Rattle.numbers.specs.Operand.{Operand}
-use Rattle.rounding.specs.Mode.{Mode}
+use Rattle.rounding.specs.declared.Mode.{Mode}
 use Rattle.rounding.specs.Sum.{add}
 use Rattle.decide.specs.Decide.{decide_at}
 use Rattle.place.specs.declared.Placed.{Placed}

@@ -2,7 +2,6 @@
 ghost use Rattle.std.specs.Prelude.{◌≡◌, true, false, ◌-◌, ◌%◌, ◌^◌, ◌≤◌};
 ghost use Rattle.numbers.specs.Limits.{least_precision};
 ghost use Rattle.numbers.specs.Operand.{Operand, WellFormed};
-ghost use Rattle.rounding.specs.Mode.{mode_of};
 ghost use Rattle.checks.specs.Number.{operand_of};
 ghost use Rattle.narrow.specs.Sighting.{Told};
 ghost use Rattle.narrow.specs.Looked.{Looked};
@@ -11,6 +10,7 @@ ghost use Rattle.narrow.specs.Lone.{Lone, Beside};
 use crate::looking::Sight;
 use crate::seeing::{Seen, nothing};
 use checks::Number;
+use rounding::Mode;
 
 // Whether the digits of a limb below the half of the last one kept are not all 0.
 fn has_rest(p: u64, u: u64) -> bool
@@ -22,9 +22,9 @@ fn has_rest(p: u64, u: u64) -> bool
 
 // What the first column of a regular operand beside a zero fixes: the column has all its digits, or those seen tell on which side of an exact
 // number and of a tie it lies.
-fn see_alone(mode: u8, negative: bool, p: u64, first: u64, top: u64, u: u64) -> Seen
+fn see_alone(mode: Mode, negative: bool, p: u64, first: u64, top: u64, u: u64) -> Seen
     requires { Lone p top u }
-    ensures { result.open ≡ false → (x z : Operand) → Beside x z first top u → negative ≡ x.negative → Told (mode_of mode) p x z result.negative result.limb result.placed }
+    ensures { result.open ≡ false → (x z : Operand) → Beside x z first top u → negative ≡ x.negative → Told mode p x z result.negative result.limb result.placed }
 {
     let fixed = (first <= 64) | has_rest(p, u);
     if !fixed {
@@ -41,9 +41,9 @@ fn see_alone(mode: u8, negative: bool, p: u64, first: u64, top: u64, u: u64) -> 
 }
 
 // What the first column of a regular operand fixes, whichever zero stands beside it.
-pub fn look_alone(mode: u8, x: Number, xl: &[u64], p: u64) -> Sight
+pub fn look_alone(mode: Mode, x: Number, xl: &[u64], p: u64) -> Sight
     requires { WellFormed (operand_of x xl.now) × ((operand_of x xl.now).is_zero ≡ false) × (least_precision ≤ p) × (p ≤ 62) }
-    ensures { result.seen.open ≡ false → (z : Operand) → WellFormed z → z.is_zero ≡ true → Looked (mode_of mode) p (operand_of x xl.now) z result }
+    ensures { result.seen.open ≡ false → (z : Operand) → WellFormed z → z.is_zero ≡ true → Looked mode p (operand_of x xl.now) z result }
 {
     let u = xl[xl.len() - 1];
     let negative = x.negative;

@@ -2,7 +2,6 @@
 ghost use Rattle.std.specs.Prelude.{◌≡◌, true, false, ◌≤◌};
 ghost use Rattle.numbers.specs.Limits.{least_precision};
 ghost use Rattle.numbers.specs.Operand.{Operand, WellFormed};
-ghost use Rattle.rounding.specs.Mode.{mode_of};
 ghost use Rattle.checks.specs.Number.{operand_of};
 ghost use Rattle.narrow.specs.Sighting.{Held, Facing, Told};
 ghost use Rattle.narrow.specs.Looked.{Looked};
@@ -12,12 +11,13 @@ use crate::looking::Sight;
 use crate::seeing::{Seen, nothing};
 use checks::Number;
 use choice::either;
+use rounding::Mode;
 use settle::Pair;
 
 // What the first column of two operands of one sign in order fixes, rounded as the mode says.
-fn see_like(mode: u8, negative: bool, p: u64, pair: Pair, u: u64, v: u64) -> Seen
+fn see_like(mode: Mode, negative: bool, p: u64, pair: Pair, u: u64, v: u64) -> Seen
     requires { Facing p pair u × (pair.same ≡ true) }
-    ensures { result.open ≡ false → (result.negative ≡ negative) × ((x y : Operand) → Held x y pair u v → negative ≡ x.negative → Told (mode_of mode) p x y result.negative result.limb result.placed) }
+    ensures { result.open ≡ false → (result.negative ≡ negative) × ((x y : Operand) → Held x y pair u v → negative ≡ x.negative → Told mode p x y result.negative result.limb result.placed) }
 {
     let c = sum_of(p, pair, u, v);
     if !c.fixed {
@@ -34,9 +34,9 @@ fn see_like(mode: u8, negative: bool, p: u64, pair: Pair, u: u64, v: u64) -> See
 }
 
 // What the first column of two regular operands of one sign fixes: with one exponent either may come first.
-pub fn look_like(mode: u8, x: Number, xl: &[u64], y: Number, yl: &[u64], p: u64) -> Sight
+pub fn look_like(mode: Mode, x: Number, xl: &[u64], y: Number, yl: &[u64], p: u64) -> Sight
     requires { WellFormed (operand_of x xl.now) × ((operand_of x xl.now).is_zero ≡ false) × WellFormed (operand_of y yl.now) × ((operand_of y yl.now).is_zero ≡ false) × (least_precision ≤ p) × (p ≤ 62) × (x.negative ≡ y.negative) }
-    ensures { result.seen.open ≡ false → Looked (mode_of mode) p (operand_of x xl.now) (operand_of y yl.now) result }
+    ensures { result.seen.open ≡ false → Looked mode p (operand_of x xl.now) (operand_of y yl.now) result }
 {
     let u = xl[xl.len() - 1];
     let v = yl[yl.len() - 1];

@@ -2,13 +2,13 @@
 ghost use Rattle.std.specs.Prelude.{◌≡◌, true, false, ◌≤◌};
 ghost use Rattle.numbers.specs.Limits.{least_precision};
 ghost use Rattle.numbers.specs.Operand.{WellFormed};
-ghost use Rattle.rounding.specs.Mode.{mode_of};
 ghost use Rattle.checks.specs.Number.{operand_of};
 ghost use Rattle.narrow.specs.Looked.{Looked};
 
 use crate::seeing::{Seen, see};
 use checks::Number;
 use choice::{either, either_sign};
+use rounding::Mode;
 use settle::Pair;
 
 // What is seen of two operands, in their own order: the sign, and the limbs used of each.
@@ -28,9 +28,9 @@ pub fn is_second_larger(a: u64, b: u64, u: u64, v: u64) -> bool
 }
 
 // What the first column of two regular operands fixes.
-pub fn look(mode: u8, x: Number, xl: &[u64], y: Number, yl: &[u64], p: u64) -> Sight
+pub fn look(mode: Mode, x: Number, xl: &[u64], y: Number, yl: &[u64], p: u64) -> Sight
     requires { WellFormed (operand_of x xl.now) × ((operand_of x xl.now).is_zero ≡ false) × WellFormed (operand_of y yl.now) × ((operand_of y yl.now).is_zero ≡ false) × (least_precision ≤ p) × (p ≤ 62) }
-    ensures { result.seen.open ≡ false → Looked (mode_of mode) p (operand_of x xl.now) (operand_of y yl.now) result }
+    ensures { result.seen.open ≡ false → Looked mode p (operand_of x xl.now) (operand_of y yl.now) result }
 {
     let u = xl[xl.len() - 1];
     let v = yl[yl.len() - 1];

@@ -1,12 +1,12 @@
 // What the first column of two operands fixes, rounded.
 ghost use Rattle.std.specs.Prelude.{◌≡◌, true, false, not, ◌+◌, ◌^◌, ◌<◌, pos};
 ghost use Rattle.numbers.specs.Operand.{Operand};
-ghost use Rattle.rounding.specs.Mode.{mode_of};
 ghost use Rattle.rounding.specs.Sum.{zero_sign};
 ghost use Rattle.narrow.specs.Sighting.{Held, Facing, AllKept, Told};
 
 use crate::column::column_of;
 use place::Placed;
+use rounding::Mode;
 use settle::Pair;
 
 // What one column says: nothing yet, or the answer's sign, limb, exponent and ternary value.
@@ -35,8 +35,8 @@ pub fn nothing() -> Seen
 }
 
 // A difference that cancels, the first operand's sign told: a zero of its own sign.
-fn cancelled(mode: u8, negative: bool) -> Seen
-    ensures { (result.negative ≡ zero_sign (mode_of mode) negative (not negative)) × (result.limb ≡ 0) × (result.placed ≡ record { rule = 0; exponent = 0; ternary = pos 0 }) }
+fn cancelled(mode: Mode, negative: bool) -> Seen
+    ensures { (result.negative ≡ zero_sign mode negative (not negative)) × (result.limb ≡ 0) × (result.placed ≡ record { rule = 0; exponent = 0; ternary = pos 0 }) }
 {
     Seen {
         open: false,
@@ -62,9 +62,9 @@ fn is_exact(p: u64, pair: Pair) -> bool
 }
 
 // The exact difference of two operands in order: a zero, or what is only brought to the top of the limb, whatever the mode.
-pub fn see_exact(mode: u8, negative: bool, p: u64, pair: Pair, u: u64, v: u64) -> Seen
+pub fn see_exact(mode: Mode, negative: bool, p: u64, pair: Pair, u: u64, v: u64) -> Seen
     requires { Facing p pair u × AllKept p pair }
-    ensures { result.open ≡ false → (x y : Operand) → Held x y pair u v → negative ≡ x.negative → Told (mode_of mode) p x y result.negative result.limb result.placed }
+    ensures { result.open ≡ false → (x y : Operand) → Held x y pair u v → negative ≡ x.negative → Told mode p x y result.negative result.limb result.placed }
 {
     let low = v >> pair.gap;
     if u == low {
@@ -84,9 +84,9 @@ pub fn see_exact(mode: u8, negative: bool, p: u64, pair: Pair, u: u64, v: u64) -
 }
 
 // What the first column of two operands in order fixes, rounded as the mode says.
-fn see_column(mode: u8, negative: bool, p: u64, pair: Pair, u: u64, v: u64) -> Seen
+fn see_column(mode: Mode, negative: bool, p: u64, pair: Pair, u: u64, v: u64) -> Seen
     requires { Facing p pair u }
-    ensures { result.open ≡ false → (x y : Operand) → Held x y pair u v → negative ≡ x.negative → Told (mode_of mode) p x y result.negative result.limb result.placed }
+    ensures { result.open ≡ false → (x y : Operand) → Held x y pair u v → negative ≡ x.negative → Told mode p x y result.negative result.limb result.placed }
 {
     let c = column_of(p, pair, u, v);
     if !c.fixed {
@@ -112,9 +112,9 @@ fn see_column(mode: u8, negative: bool, p: u64, pair: Pair, u: u64, v: u64) -> S
 }
 
 // What the first column of two operands in order fixes; of unlike signs the first is then seen to be the larger, or all cancels.
-pub fn see(mode: u8, negative: bool, p: u64, pair: Pair, u: u64, v: u64) -> Seen
+pub fn see(mode: Mode, negative: bool, p: u64, pair: Pair, u: u64, v: u64) -> Seen
     requires { Facing p pair u }
-    ensures { result.open ≡ false → (x y : Operand) → Held x y pair u v → negative ≡ x.negative → Told (mode_of mode) p x y result.negative result.limb result.placed }
+    ensures { result.open ≡ false → (x y : Operand) → Held x y pair u v → negative ≡ x.negative → Told mode p x y result.negative result.limb result.placed }
 {
     if is_exact(p, pair) {
         return see_exact(mode, negative, p, pair, u, v);

@@ -2,7 +2,6 @@
 ghost use Rattle.std.specs.Prelude.{◌≡◌, true, false, ◌+◌, ◌^◌, ◌≤◌, ◌<◌};
 ghost use Rattle.numbers.specs.Limits.{least_precision};
 ghost use Rattle.numbers.specs.Operand.{Operand, WellFormed};
-ghost use Rattle.rounding.specs.Mode.{mode_of};
 ghost use Rattle.checks.specs.Number.{operand_of};
 ghost use Rattle.narrow.specs.Sighting.{Held, Facing, Told};
 ghost use Rattle.narrow.specs.Looked.{Looked};
@@ -12,6 +11,7 @@ use crate::looking::{Sight, is_second_larger};
 use crate::seeing::{Seen, nothing, see_exact};
 use checks::Number;
 use choice::either;
+use rounding::Mode;
 use settle::Pair;
 
 // Whether all digits of both operands are among the p first of the column.
@@ -23,9 +23,9 @@ fn is_kept(p: u64, pair: Pair) -> bool
 }
 
 // What the first column of two operands of unlike signs in order fixes: exact, or rounded as the mode says.
-fn see_unlike(mode: u8, negative: bool, p: u64, pair: Pair, u: u64, v: u64) -> Seen
+fn see_unlike(mode: Mode, negative: bool, p: u64, pair: Pair, u: u64, v: u64) -> Seen
     requires { Facing p pair u × (pair.same ≡ false) }
-    ensures { result.open ≡ false → (x y : Operand) → Held x y pair u v → negative ≡ x.negative → Told (mode_of mode) p x y result.negative result.limb result.placed }
+    ensures { result.open ≡ false → (x y : Operand) → Held x y pair u v → negative ≡ x.negative → Told mode p x y result.negative result.limb result.placed }
 {
     if is_kept(p, pair) {
         return see_exact(mode, negative, p, pair, u, v);
@@ -45,9 +45,9 @@ fn see_unlike(mode: u8, negative: bool, p: u64, pair: Pair, u: u64, v: u64) -> S
 }
 
 // What the first column of two regular operands of unlike signs fixes.
-pub fn look_unlike(mode: u8, x: Number, xl: &[u64], y: Number, yl: &[u64], p: u64) -> Sight
+pub fn look_unlike(mode: Mode, x: Number, xl: &[u64], y: Number, yl: &[u64], p: u64) -> Sight
     requires { WellFormed (operand_of x xl.now) × ((operand_of x xl.now).is_zero ≡ false) × WellFormed (operand_of y yl.now) × ((operand_of y yl.now).is_zero ≡ false) × (least_precision ≤ p) × (p ≤ 62) × (x.negative ≡ y.negative → ⊥) }
-    ensures { result.seen.open ≡ false → Looked (mode_of mode) p (operand_of x xl.now) (operand_of y yl.now) result }
+    ensures { result.seen.open ≡ false → Looked mode p (operand_of x xl.now) (operand_of y yl.now) result }
 {
     let u = xl[xl.len() - 1];
     let v = yl[yl.len() - 1];

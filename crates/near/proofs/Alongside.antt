@@ -11,8 +11,8 @@ use Rattle.limb.specs.Value.{value_of, Below}
 use Rattle.limb.specs.Carry.{bit}
 use Rattle.numbers.specs.Limits.{most_precision, limbs_for}
 use Rattle.numbers.specs.Operand.{Operand}
-use Rattle.rounding.specs.Mode.{nearest}
 use Rattle.rounding.proofs.Order.{le_or_lt}
+use Rattle.rounding.specs.declared.Mode.TheVariants.{Nearest}
 use Rattle.depth.specs.Depth.{plus, Fixed}
 use Rattle.depth.proofs.Least.{fixed_more}
 use Rattle.decide.specs.Decide.{decide_at}
@@ -178,15 +178,15 @@ module _ (p : ℕ) (pair : Pair) (first second before : List ℕ) (room : Room p
     abbrev h : Holding x y pair first second
     h = offered.holding
 
-    rounds : Rounds nearest p x y after r.carry r.guard r.more r.depth
-    rounds = fills closed nearest x y h
+    rounds : Rounds Nearest p x y after r.carry r.guard r.more r.depth
+    rounds = fills closed Nearest x y h
 
-    fixed_at : (k : ℕ) → 1 ≤ k → Decides (decide_at nearest p x y k) (Fixed plus nearest p x y k)
-    fixed_at k K = decides_fixed nearest p (digits_some p n room) x y h.course.ordered.first h.course.ordered.second k K
+    fixed_at : (k : ℕ) → 1 ≤ k → Decides (decide_at Nearest p x y k) (Fixed plus Nearest p x y k)
+    fixed_at k K = decides_fixed Nearest p (digits_some p n room) x y h.course.ordered.first h.course.ordered.second k K
 
     -- one column fewer than fill the target fixes nothing
     short : r.depth < n → ⊥
-    short l = true≢false (sym ((fixed_at k (omega (arith, rounds.some))).complete (fixed_more plus nearest p x y r.depth k (omega arith) ((fixed_at r.depth rounds.some).sound rounds.fixed))) ∙ prompt_open nearest p x y 0 h.course before room (mine x y h) (omega (arith, rounds.some)))
+    short l = true≢false (sym ((fixed_at k (omega (arith, rounds.some))).complete (fixed_more plus Nearest p x y r.depth k (omega arith) ((fixed_at r.depth rounds.some).sound rounds.fixed))) ∙ prompt_open Nearest p x y 0 h.course before room (mine x y h) (omega (arith, rounds.some)))
       where
         k : ℕ
         k = 0 + (n - 1)

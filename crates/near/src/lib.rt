@@ -9,7 +9,6 @@
 
 ghost use Rattle.std.specs.Prelude.{◌≡◌, false, ◌<◌, length};
 ghost use Rattle.numbers.specs.Operand.{Operand};
-ghost use Rattle.rounding.specs.Mode.{mode_of};
 ghost use Rattle.checks.specs.Room.{Room};
 ghost use Rattle.wide.specs.Filling.{Holding, Offered};
 ghost use Rattle.wide.specs.Attempted.{Attempted};
@@ -17,12 +16,13 @@ ghost use Rattle.wide.specs.Attempted.{Attempted};
 mod filling; // filling.rt: one walk fills the target
 
 use filling::fill;
+use rounding::Mode;
 use settle::Pair;
 use wide::{Attempt, nothing};
 
 // Adds two such numbers, the second with its own sign, where the columns that fill the target, or one more, fix the answer.
 pub fn attempt(
-    mode: u8,
+    mode: Mode,
     negative: bool,
     p: u64,
     pair: Pair,
@@ -31,7 +31,7 @@ pub fn attempt(
     target: &mut [u64],
 ) -> Attempt
     requires { Room p (length target.old) × Offered pair first.now second.now × (length first.now ≡ length target.old) × (length second.now ≡ length target.old) × (0 < pair.gap) × (pair.gap < 64) }
-    ensures { (length target.new ≡ length target.old) × (result.open ≡ false → (z w : Operand) → Holding z w pair first.now second.now → negative ≡ z.negative → Attempted (mode_of mode) p z w target.new result.negative result.placed result.depth result.first result.second) }
+    ensures { (length target.new ≡ length target.old) × (result.open ≡ false → (z w : Operand) → Holding z w pair first.now second.now → negative ≡ z.negative → Attempted mode p z w target.new result.negative result.placed result.depth result.first result.second) }
 {
     let filled = fill(p, pair, first, second, target);
     if filled.open {

@@ -19,8 +19,9 @@ use Rattle.numbers.specs.Limits.{limbs_for}
 use Rattle.numbers.specs.Limbs.{limbs_of}
 use Rattle.numbers.specs.Operand.{spare_bits}
 use Rattle.numbers.proofs.Digits.{limbs_count, limbs_below, limbs_value}
-use Rattle.rounding.specs.Mode.{mode_of, way}
+use Rattle.rounding.specs.Mode.{way}
 use Rattle.rounding.specs.Answer.{Answer, number, ranged, signed}
+use Rattle.rounding.specs.declared.Mode.{Mode}
 use Rattle.location.specs.declared.Location.{Location}
 use Rattle.place.specs.declared.Placed.{Placed}
 use Rattle.location.specs.Location.{location_of, goes_up, side}
@@ -35,7 +36,7 @@ use Rattle.place.proofs.Rules.{Passed, passed, spare_is}
 
 -- ---- refused, or not
 
-module _ (mode p : ℕ) (negative : Bool) (unit : ℕ) (carry : Bool) (t : List ℕ) (guard : ℕ) (more : Bool) where
+module _ (mode : Mode) (p : ℕ) (negative : Bool) (unit : ℕ) (carry : Bool) (t : List ℕ) (guard : ℕ) (more : Bool) where
   abbrev pub answered : Answer
   answered = run_answer mode p negative unit (run_number carry t guard more)
 
@@ -61,7 +62,7 @@ module _ (mode p : ℕ) (negative : Bool) (unit : ℕ) (carry : Bool) (t : List 
   rounded_unique r s x y a b c d = (a ∙ sym b, c ∙ sym d)
 
 -- what a run with the same answer is rounded to, the run is rounded to
-module _ (mode p : ℕ) (negative : Bool) (unit : ℕ) (carry : Bool) (t : List ℕ) (guard : ℕ) (more : Bool) (unit_too : ℕ) (carry_too : Bool) (u : List ℕ) (guard_too : ℕ) (more_too : Bool)
+module _ (mode : Mode) (p : ℕ) (negative : Bool) (unit : ℕ) (carry : Bool) (t : List ℕ) (guard : ℕ) (more : Bool) (unit_too : ℕ) (carry_too : Bool) (u : List ℕ) (guard_too : ℕ) (more_too : Bool)
     (pass : run_rule p carry t unit ≡ 0) (pass_too : run_rule p carry_too u unit_too ≡ 0)
     (same : answered mode p negative unit_too carry_too u guard_too more_too ≡ answered mode p negative unit carry t guard more) where
   pub same_rounds : (q : Placed) (l : List ℕ) → q ≡ rounded_placed mode p negative unit_too carry_too u guard_too more_too → l ≡ rounded_limbs mode p negative unit_too carry_too u guard_too more_too
@@ -73,7 +74,7 @@ module _ (mode p : ℕ) (negative : Bool) (unit : ℕ) (carry : Bool) (t : List 
 
 -- ---- rounded
 
-module _ (mode p : ℕ) (negative : Bool) (unit : ℕ) (carry : Bool) (t : List ℕ) (guard : ℕ) (more : Bool) (d s : ℕ)
+module _ (mode : Mode) (p : ℕ) (negative : Bool) (unit : ℕ) (carry : Bool) (t : List ℕ) (guard : ℕ) (more : Bool) (d s : ℕ)
     (pass : run_rule p carry t unit ≡ 0) (s_is : s ≡ 64 * length t - p) (lt : guard < 2 ^ 64) (reach : Reaches carry t d) where
   ok : Passed p carry t unit
   ok = passed p carry t unit pass
@@ -103,7 +104,7 @@ module _ (mode p : ℕ) (negative : Bool) (unit : ℕ) (carry : Bool) (t : List 
       (at_is : at ≡ location_of (2 * ((get_or t 0 0 * 2 ^ 64 + guard) % 2 ^ below) + bit more) (2 ^ (below + 1)))
       (cut : Holds (length t) (N / 2 ^ below * 2 ^ s) t1)
       (odd_is : odd ≡ eqb (value_in (2 ^ 64) t1 / 2 ^ s % 2) 1)
-      (up_is : up ≡ goes_up (way (mode_of mode) negative) at odd)
+      (up_is : up ≡ goes_up (way mode negative) at odd)
       (raised : RoundedUp s (value_in (2 ^ 64) t1 / 2 ^ s + bit up) t1 over t2)
       (limbs : Below (2 ^ 64) t2)
       (e_is : e ≡ unit + p + d + s + bool_byte over)
@@ -131,9 +132,9 @@ module _ (mode p : ℕ) (negative : Bool) (unit : ℕ) (carry : Bool) (t : List 
     answer_is : answered mode p negative unit carry t guard more ≡ ranged e (number negative e (as_digits p m) (signed negative (side at up)))
     unfolding run_answer run_number whole headed m
     answer_is =
-        rounded_at (way (mode_of mode) negative) p below N more (lt_of_lt_of_le (omega arith) ok.least) lo hi at up m (unit - 1) e negative
+        rounded_at (way mode negative) p below N more (lt_of_lt_of_le (omega arith) ok.least) lo hi at up m (unit - 1) e negative
         (at_is ∙ ap (λ (n : ℕ). location_of (2 * n + bit more) (2 ^ (below + 1))) (rest_low carry t guard below ok.some_limbs few_below))
-        (up_is ∙ ap (goes_up (way (mode_of mode) negative) at) (odd_is ∙ ap (λ (n : ℕ). eqb (n % 2) 1) q_is)) refl
+        (up_is ∙ ap (goes_up (way mode negative) at) (odd_is ∙ ap (λ (n : ℕ). eqb (n % 2) 1) q_is)) refl
         (e_is ∙ ap (λ (n : ℕ). unit + p + d + s + n) (sym (bit_byte over) ∙ ap bit over_is) ∙ count unit p d s (bit (is_full p m)) ok.some)
       where
         count : (u p d s f : ℕ) → 0 < u → u + p + d + s + f ≡ p + (d + s + 1) + f + (u - 1)

@@ -23,9 +23,10 @@ use Rattle.numbers.specs.Limbs.{limbs_of}
 use Rattle.numbers.specs.Operand.{spare_bits}
 use Rattle.numbers.proofs.Limits.{limbs_fewest}
 use Rattle.numbers.proofs.Digits.{limbs_count, limbs_below, limbs_value, digits_and_spare}
-use Rattle.rounding.specs.Mode.{Way, near, under, over, mode_of, way}
+use Rattle.rounding.specs.Mode.{Way, near, under, over, way}
 use Rattle.rounding.specs.Answer.{number, ranged, signed, rounded}
 use Rattle.rounding.proofs.Order.{le_or_lt, units, remainder}
+use Rattle.rounding.specs.declared.Mode.{Mode}
 use Rattle.location.specs.declared.Location.{Location}
 use Rattle.location.specs.declared.Location.TheVariants.{Lower, Upper}
 use Rattle.location.specs.Location.{from_middle, location_of, goes_up, side}
@@ -173,9 +174,9 @@ module _ (p exponent : ℕ) (t : List ℕ) (h : Stored p exponent t) where
       go : (n i : ℕ) → 64 * n ≡ p + i → 64 * (n + 1) < exponent → exponent + f ≡ p + (i + 64 + 1) + f + (exponent - 64 * (n + 1) - 1)
       go n i e k = omega arith
 
-  module _ (mode : ℕ) (negative : Bool) where
+  module _ (mode : Mode) (negative : Bool) where
     abbrev w : Way
-    w = way (mode_of mode) negative
+    w = way mode negative
 
     above_is : (up : Bool) (e : ℕ) → up ≡ goes_up w Lower false → e ≡ exponent + bit (is_full p (q + bit up))
         → above_answer mode p negative exponent t ≡ ranged e (number negative e (as_digits p (q + bit up)) (signed negative (side Lower up)))

@@ -11,7 +11,8 @@ use lib.ListN.{length, get_or}
 use lib.Pow.{pow_pos, pow-add}
 use Rattle.limb.specs.Carry.{bit}
 use Rattle.limb.specs.Value.{value_of, Below}
-use Rattle.rounding.specs.Mode.{mode_of, way}
+use Rattle.rounding.specs.Mode.{way}
+use Rattle.rounding.specs.declared.Mode.{Mode}
 use Rattle.location.specs.declared.Location.TheVariants.{Exact}
 use Rattle.location.specs.Location.{location_of}
 use Rattle.location.proofs.Locating.{at_nothing}
@@ -56,9 +57,9 @@ module _ (p unit : ℕ) (t : List ℕ) (d s : ℕ) (pass : run_rule p false t un
     cut_clean : value_of cut % 2 ^ s ≡ 0
     cut_clean = ap (λ (m : ℕ). m % 2 ^ s) holds.value ∙ mul-mod_left (whole false t 0 / 2 ^ (d + s)) (2 ^ s)
 
-    pub exact : (mode : ℕ) (negative : Bool) → (r ≡ rounded_placed mode p negative unit false t 0 false) × (after ≡ rounded_limbs mode p negative unit false t 0 false)
+    pub exact : (mode : Mode) (negative : Bool) → (r ≡ rounded_placed mode p negative unit false t 0 false) × (after ≡ rounded_limbs mode p negative unit false t 0 false)
     exact mode negative =
         placed mode p negative unit false t 0 false d s pass s_is (pow_pos 64) reach Exact cut (eqb (value_of cut / 2 ^ s % 2) 1) false cut false r after (pos 0) e
-        located holds refl (exact_up (way (mode_of mode) negative) Exact _ refl)
+        located holds refl (exact_up (way mode negative) Exact _ refl)
         (stays cut s (lt_of_lt_of_le ok.some_limbs (le_of_eq (sym holds.size))) spare_few limbs cut_clean) limbs
         (e_is ∙ sym (add-zero _)) (exact_ternary negative Exact false refl) end

@@ -8,6 +8,7 @@ use native.Mathlib.Omega.{arith}
 use lib.IntN.{pos}
 use lib.Pow.{pow_pos, pow-add}
 use Rattle.limb.proofs.Value.{one_below}
+use Rattle.rounding.specs.declared.Mode.{Mode}
 use Rattle.kept.specs.Walk.{whole, Reaches, Holds}
 use Rattle.kept.proofs.OneLimb.{one_value}
 use Rattle.kept.proofs.Reaching.{headed_false, reach_plain}
@@ -59,7 +60,7 @@ module _ (p unit x z : ℕ) (pass : run_rule p false (x ∷ []) unit ≡ 0) (lt 
       }
 
   -- no mode adds a unit
-  pub exact_one : (r : Placed) (limb : ℕ) → Settled (unit + 128 - z) (pos 0) (x * 2 ^ z % 2 ^ 64 ∷ []) r (limb ∷ []) → (mode : ℕ) (negative : Bool)
+  pub exact_one : (r : Placed) (limb : ℕ) → Settled (unit + 128 - z) (pos 0) (x * 2 ^ z % 2 ^ 64 ∷ []) r (limb ∷ []) → (mode : Mode) (negative : Bool)
       → (r ≡ rounded_placed mode p negative unit false (x ∷ []) 0 false) × (limb ∷ [] ≡ rounded_limbs mode p negative unit false (x ∷ []) 0 false)
   exact_one r limb end mode negative =
       exact p unit (x ∷ []) (64 - z) (64 - p) pass refl reaches (ap (λ (m : ℕ). m % 2 ^ (64 - p)) (one_value x) ∙ clean)

@@ -11,7 +11,7 @@ use Rattle.numbers.specs.Limits.{least_precision, most_precision, bias, least_ex
 use Rattle.numbers.specs.Limbs.{limbs_of}
 use Rattle.numbers.specs.Operand.{mantissa, spare_bits}
 use Rattle.numbers.proofs.Digits.{put, put_mantissa}
-use Rattle.rounding.specs.Mode.{mode_of, way}
+use Rattle.rounding.specs.Mode.{way}
 use Rattle.rounding.specs.Select.{quotient, on_grid, unit, chosen}
 use Rattle.rounding.specs.Answer.{zero_of, number, too_large, too_small, ranged, digits, signed, rounded}
 use Rattle.place.specs.declared.Placed.{Placed}
@@ -61,7 +61,7 @@ pub marked_runs :
     ∷ gives (bias + 1) (pos 0) (0 ∷ 2 ^ 63 ∷ [])
     ∷ gives bias (negsuc 0) ((2 ^ 63 + 1) ∷ [])
     ∷ []
-unfolding rounded_placed rounded_limbs run_rule run_answer run_number placed_of limbs_after ternary_of mode_of way rounded ranged digits signed chosen on_grid unit quotient size bit value_in limbs_of limbs_for spare_bits bias least_precision most_precision least_exponent most_exponent
+unfolding rounded_placed rounded_limbs run_rule run_answer run_number placed_of limbs_after ternary_of way rounded ranged digits signed chosen on_grid unit quotient size bit value_in limbs_of limbs_for spare_bits bias least_precision most_precision least_exponent most_exponent
 marked_runs = refl
 
 -- marked sums 11 and 12: 0.11111 × 2^M up and down, and 0.01 × 2^N; the least exponent is in range
@@ -72,7 +72,7 @@ pub range_runs :
     ∷ told 0 4 true (below 1 least_exponent) false (2 ^ 63 ∷ []) 0 false
     ∷ []
     ≡ refuses 6 (0 ∷ []) ∷ gives most_exponent (negsuc 0) (0b1111 * 2 ^ 60 ∷ []) ∷ refuses 7 (0 ∷ []) ∷ gives least_exponent (pos 0) (2 ^ 63 ∷ []) ∷ []
-unfolding rounded_placed rounded_limbs run_rule run_answer run_number placed_of limbs_after ternary_of mode_of way rounded ranged digits signed chosen on_grid unit quotient size bit value_in limbs_of limbs_for spare_bits bias least_precision most_precision least_exponent most_exponent
+unfolding rounded_placed rounded_limbs run_rule run_answer run_number placed_of limbs_after ternary_of way rounded ranged digits signed chosen on_grid unit quotient size bit value_in limbs_of limbs_for spare_bits bias least_precision most_precision least_exponent most_exponent
 range_runs = refl
 
 -- every rule broken, and then one fewer each; the target stays as it was

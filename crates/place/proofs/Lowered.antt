@@ -10,8 +10,9 @@ use lib.Pow.{pow_pos}
 use borrow.Author.Tests.{ne_eqb}
 use Rattle.limb.specs.Carry.{bit}
 use Rattle.numbers.specs.Limits.{most_exponent}
-use Rattle.rounding.specs.Mode.{Way, mode_of, way}
+use Rattle.rounding.specs.Mode.{Way, way}
 use Rattle.rounding.specs.Answer.{rounded}
+use Rattle.rounding.specs.declared.Mode.{Mode}
 use Rattle.place.specs.declared.Placed.{Placed}
 use Rattle.place.specs.declared.one.Normal.{Normal}
 use Rattle.place.specs.Placed.{run_number, run_answer, run_rule}
@@ -58,7 +59,7 @@ module _ (w : Way) (p u : ℕ) (negative : Bool) (l o : ℕ) (more tail : Bool) 
 
 -- ---- the run and the lowered run
 
-module _ (mode p : ℕ) (negative : Bool) (u : ℕ) (b : Bool) (x : ℕ) (more : Bool) (r : Normal) (pass : run_rule p b (x ∷ []) u ≡ 0) (under : u < 2 * most_exponent)
+module _ (mode : Mode) (p : ℕ) (negative : Bool) (u : ℕ) (b : Bool) (x : ℕ) (more : Bool) (r : Normal) (pass : run_rule p b (x ∷ []) u ≡ 0) (under : u < 2 * most_exponent)
     (top : b ≡ false → 2 ^ 63 ≤ x) (short : p ≤ 62) (lt : r.limb < 2 ^ 64) (empty : r.guard ≡ 0)
     (carried : b ≡ true → (r.limb ≡ 2 ^ 63 + x / 2) × (r.more ≡ (not (eqb (x % 2) 0) || more)) × (r.unit ≡ u + 1)) (plain : b ≡ false → (r.limb ≡ x) × (r.more ≡ more) × (r.unit ≡ u)) where
   ok : Passed p b (x ∷ []) u
@@ -82,7 +83,7 @@ module _ (mode p : ℕ) (negative : Bool) (u : ℕ) (b : Bool) (x : ℕ) (more :
   lowered_passes = (also_passes p b x u pass r.limb r.unit first unit_fits.0 unit_fits.1, first)
 
   abbrev w : Way
-  w = way (mode_of mode) negative
+  w = way mode negative
 
   abbrev run : Bool → ℕ → ℕ → Bool → ℕ
   run c l g m = 2 * whole c (l ∷ []) g + bit m

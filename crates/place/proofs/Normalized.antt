@@ -13,8 +13,9 @@ use borrow.Author.Tests.{lt-ltb, le-leb, eq-eqb}
 use Rattle.limb.proofs.Tests.{and_both}
 use Rattle.limb.specs.Carry.{bit}
 use Rattle.numbers.specs.Limits.{least_precision, most_precision, most_exponent, limbs_for}
-use Rattle.rounding.specs.Mode.{Way, mode_of, way}
+use Rattle.rounding.specs.Mode.{Way, way}
 use Rattle.rounding.specs.Answer.{rounded}
+use Rattle.rounding.specs.declared.Mode.{Mode}
 use Rattle.place.specs.declared.Placed.{Placed}
 use Rattle.place.specs.declared.one.Normal.{Normal}
 use Rattle.place.specs.Normal.{Normalized}
@@ -154,7 +155,7 @@ also_passes p b x u pass l v first some most =
     sym (rule_none p false (l ∷ []) v (and_both (le-leb 2 p ok.least) (le-leb p 4096 ok.most)) (eq-eqb 1 (limbs_for p) ok.count) (and_both (lt-ltb 0 v some) (le-leb v (2 * most_exponent) most))
     (lt-ltb 0 l (omega (arith, first))))
 
-module _ (mode p : ℕ) (negative : Bool) (u : ℕ) (b : Bool) (x g : ℕ) (more : Bool) (r : Normal) (pass : run_rule p b (x ∷ []) u ≡ 0) (over : 64 < u) (under : u < 2 * most_exponent)
+module _ (mode : Mode) (p : ℕ) (negative : Bool) (u : ℕ) (b : Bool) (x g : ℕ) (more : Bool) (r : Normal) (pass : run_rule p b (x ∷ []) u ≡ 0) (over : 64 < u) (under : u < 2 * most_exponent)
     (lt : r.limb < 2 ^ 64) (few : r.guard < 2 ^ 64) (n : Normalized b x g more u r) where
   ok : Passed p b (x ∷ []) u
   ok = passed p b (x ∷ []) u pass
@@ -178,7 +179,7 @@ module _ (mode p : ℕ) (negative : Bool) (u : ℕ) (b : Bool) (x g : ℕ) (more
   hi = whole_lt false (r.limb ∷ []) r.guard 64 few reaches
 
   abbrev w : Way
-  w = way (mode_of mode) negative
+  w = way mode negative
 
   -- one digit more below
   from_carried : b ≡ true → rounded w p (u - 1) negative (2 * W + bit more) ≡ rounded w p (r.unit - 1) negative (2 * N + bit r.more)

@@ -4,6 +4,7 @@ use Rattle.limb.specs.Value.{value_of, Below}
 use Rattle.numbers.specs.Limits.{least_exponent, most_exponent, limbs_for}
 use Rattle.numbers.specs.Operand.{spare_bits}
 use Rattle.rounding.specs.Answer.{Answer}
+use Rattle.rounding.specs.declared.Mode.{Mode}
 use Rattle.place.specs.Placed.{run_answer}
 
 -- p digits from the top of the target on, the first of them 1, and nothing below: a number whose exponent is in range, with room for the
@@ -19,9 +20,9 @@ pub record Stored (p exponent : ℕ) (target : List ℕ) : Type 0 where
   pub most : exponent ≤ most_exponent
 
 -- mode, precision, sign and exponent; the number in the target and half of a digit more, in a limb below it
-unfoldable pub above_answer : ℕ → ℕ → Bool → ℕ → List ℕ → Answer
+unfoldable pub above_answer : Mode → ℕ → Bool → ℕ → List ℕ → Answer
 above_answer mode p negative exponent target = run_answer mode p negative (exponent - 64 * (length target + 1)) (2 * (value_of target * 2 ^ 64) + 1)
 
 -- the same, and half of a digit less
-unfoldable pub below_answer : ℕ → ℕ → Bool → ℕ → List ℕ → Answer
+unfoldable pub below_answer : Mode → ℕ → Bool → ℕ → List ℕ → Answer
 below_answer mode p negative exponent target = run_answer mode p negative (exponent - 64 * (length target + 1)) (2 * (value_of target * 2 ^ 64) - 1)

@@ -5,8 +5,9 @@ use Rattle.limb.specs.Carry.{bit}
 use Rattle.numbers.specs.Limits.{least_precision, most_precision, most_exponent, limbs_for}
 use Rattle.numbers.specs.Limbs.{limbs_of}
 use Rattle.numbers.specs.Operand.{spare_bits}
-use Rattle.rounding.specs.Mode.{mode_of, way}
+use Rattle.rounding.specs.Mode.{way}
 use Rattle.rounding.specs.Answer.{Answer, zero_of, number, too_large, too_small, rounded}
+use Rattle.rounding.specs.declared.Mode.{Mode}
 use Rattle.location.specs.Ternary.{ternary_of}
 use Rattle.place.specs.declared.Placed.{Placed}
 
@@ -18,8 +19,8 @@ unfoldable pub run_number : Bool → List ℕ → ℕ → Bool → ℕ
 run_number carry target guard more = 2 * ((bit carry * 2 ^ (64 * length target) + value_of target) * 2 ^ 64 + guard) + bit more
 
 -- the answer: the guard's last digit has the (counted) weight 2 ^ unit
-unfoldable pub run_answer : ℕ → ℕ → Bool → ℕ → ℕ → Answer
-run_answer mode p negative unit n = rounded (way (mode_of mode) negative) p (unit - 1) negative n
+unfoldable pub run_answer : Mode → ℕ → Bool → ℕ → ℕ → Answer
+run_answer mode p negative unit n = rounded (way mode negative) p (unit - 1) negative n
 
 -- what is answered: rule 6 and 7 are the refusals
 unfoldable pub placed_of : Answer → Placed

@@ -7,7 +7,8 @@
 //
 ghost use Rattle.std.specs.Prelude.{◌≡◌, true, false, List, ℕ, ◌<◌};
 ghost use Rattle.numbers.specs.Limits.{most_exponent};
-ghost use Rattle.rounding.specs.Mode.{mode_of, way};
+ghost use Rattle.rounding.specs.Mode.{way};
+ghost use Rattle.rounding.specs.declared.Mode.{Mode};
 ghost use Rattle.location.specs.declared.Location.TheVariants.{Upper};
 ghost use Rattle.location.specs.Location.{goes_up};
 ghost use Rattle.place.specs.Placed.{placed_of, limbs_after};
@@ -16,6 +17,7 @@ ghost use Rattle.place.specs.Beside.{Stored, above_answer, below_answer};
 use crate::Placed;
 use kept::round_up;
 use location::{Location, rounds_up, ternary};
+use rounding::Mode;
 
 // Rounds a little more than the number in the target: the last unit is added where the mode goes away from zero.
 pub fn round_above(
@@ -23,7 +25,7 @@ pub fn round_above(
     target: &mut [u64],
     exponent: u64,
     precision: u64,
-    mode: u8,
+    mode: Mode,
 ) -> Placed
     requires { Stored precision exponent target.old × (exponent < most_exponent) }
     ensures value { result ≡ placed_of (above_answer mode precision negative exponent target.old) }
@@ -42,7 +44,7 @@ pub fn round_above(
 
 // What is told of a little less than such a number, under a mode that takes it up to the number again: the target stays.
 pub fn round_below(negative: bool, exponent: u64) -> Placed
-    ensures { (mode p : ℕ) (t : List ℕ) → Stored p exponent t → goes_up (way (mode_of mode) negative) Upper false ≡ true → (result ≡ placed_of (below_answer mode p negative exponent t)) × (t ≡ limbs_after p (below_answer mode p negative exponent t)) }
+    ensures { (mode : Mode) (p : ℕ) (t : List ℕ) → Stored p exponent t → goes_up (way mode negative) Upper false ≡ true → (result ≡ placed_of (below_answer mode p negative exponent t)) × (t ≡ limbs_after p (below_answer mode p negative exponent t)) }
 {
     Placed {
         rule: 0,

@@ -9,6 +9,7 @@
 
 ghost use Rattle.std.specs.Prelude.{◌≡◌, Bool, false, [], ◌∷◌, ℕ, ◌-◌, ◌*◌, ◌%◌, ◌^◌, ◌≤◌, length};
 ghost use Rattle.limb.specs.Value.{value_of};
+ghost use Rattle.rounding.specs.declared.Mode.{Mode};
 ghost use Rattle.place.specs.Placed.{run_rule};
 ghost use Rattle.place.specs.Rounded.{rounded_placed, rounded_limbs};
 
@@ -21,6 +22,7 @@ use kept::{is_odd, raise, reach, round_up, truncate};
 use limits::{run_rule, settle, settle_limb};
 use location::{locate, rounds_up, ternary};
 pub use one::{round_carried, round_one, round_raised, settle_one};
+use rounding::Mode;
 
 // The rule by which the run is refused, or 0; the counted exponent and the ternary value of what is selected.
 #[derive(Clone, Copy)]
@@ -46,7 +48,7 @@ pub fn round_fit(
     more: bool,
     unit: u64,
     precision: u64,
-    mode: u8,
+    mode: Mode,
 ) -> Placed
     requires { run_rule precision carry target.old unit ≡ 0 }
     ensures value { result ≡ rounded_placed mode precision negative unit carry target.old guard more }
@@ -68,8 +70,8 @@ pub fn round_fit(
 // Rounds a target of which nothing lies below the digits kept, as `round_fit` does under every mode and sign.
 pub fn round_exact(target: &mut [u64], unit: u64, precision: u64) -> Placed
     requires { (run_rule precision false target.old unit ≡ 0) × (value_of target.old % 2 ^ (64 * length target.old - precision) ≡ 0) }
-    ensures by_index { (mode : ℕ) (negative : Bool) → result ≡ rounded_placed mode precision negative unit false target.old 0 false }
-    ensures by_index_2 { (mode : ℕ) (negative : Bool) → target.new ≡ rounded_limbs mode precision negative unit false target.old 0 false }
+    ensures by_index { (mode : Mode) (negative : Bool) → result ≡ rounded_placed mode precision negative unit false target.old 0 false }
+    ensures by_index_2 { (mode : Mode) (negative : Bool) → target.new ≡ rounded_limbs mode precision negative unit false target.old 0 false }
 {
     let spare = 64 * (target.len() as u64) - precision;
     let offset = reach(false, target);
@@ -85,7 +87,7 @@ pub fn round_limb(
     more: bool,
     unit: u64,
     precision: u64,
-    mode: u8,
+    mode: Mode,
 ) -> PlacedLimb
     requires { (run_rule precision false (limb ∷ []) unit ≡ 0) × (2 ^ 63 ≤ limb) }
     ensures placed_value { result.placed ≡ rounded_placed mode precision negative unit false (limb ∷ []) guard more }
@@ -114,7 +116,7 @@ pub fn round_run(
     more: bool,
     unit: u64,
     precision: u64,
-    mode: u8,
+    mode: Mode,
 ) -> Placed
     ensures value { result ≡ rounded_placed mode precision negative unit carry target.old guard more }
     ensures target_after { target.new ≡ rounded_limbs mode precision negative unit carry target.old guard more }

@@ -6,12 +6,14 @@
 //
 ghost use Rattle.std.specs.Prelude.{◌≡◌, Bool, true, false, not, ◌||◌, [], ◌∷◌, ℕ, ◌+◌, ◌-◌, ◌*◌, ◌/◌, ◌%◌, ◌^◌, ◌≤◌, ◌<◌, eqb};
 ghost use Rattle.numbers.specs.Limits.{most_exponent};
+ghost use Rattle.rounding.specs.declared.Mode.{Mode};
 ghost use Rattle.place.specs.Normal.{Normalized};
 ghost use Rattle.place.specs.Placed.{run_rule};
 ghost use Rattle.place.specs.Rounded.{rounded_placed, rounded_limbs};
 
 use crate::limits::settle_limb;
 use crate::{PlacedLimb, round_limb};
+use rounding::Mode;
 
 // 2^63: the first digit of a limb.
 const FIRST_DIGIT: u64 = 9223372036854775808;
@@ -69,7 +71,7 @@ pub fn round_one(
     more: bool,
     unit: u64,
     precision: u64,
-    mode: u8,
+    mode: Mode,
 ) -> PlacedLimb
     requires { (run_rule precision carry (limb ∷ []) unit ≡ 0) × (64 < unit) × (unit < 2 * most_exponent) }
     ensures placed_value { result.placed ≡ rounded_placed mode precision negative unit carry (limb ∷ []) guard more }
@@ -109,7 +111,7 @@ pub fn round_carried(
     more: bool,
     unit: u64,
     precision: u64,
-    mode: u8,
+    mode: Mode,
 ) -> PlacedLimb
     requires { (run_rule precision carry (limb ∷ []) unit ≡ 0) × (64 < unit) × (unit < 2 * most_exponent) × (carry ≡ false → 2 ^ 63 ≤ limb) × (precision ≤ 62) }
     ensures placed_value { result.placed ≡ rounded_placed mode precision negative unit carry (limb ∷ []) 0 more }
@@ -127,7 +129,7 @@ pub fn round_raised(
     more: bool,
     unit: u64,
     precision: u64,
-    mode: u8,
+    mode: Mode,
 ) -> PlacedLimb
     requires { (run_rule precision false (limb ∷ []) unit ≡ 0) × (64 < unit) × (unit < 2 * most_exponent) }
     ensures placed_value { result.placed ≡ rounded_placed mode precision negative unit false (limb ∷ []) guard more }
@@ -140,7 +142,7 @@ pub fn round_raised(
 // Brings a limb to its top. Where nothing of it lies below the digits kept, it is rounded so under every mode and sign.
 pub fn settle_one(limb: u64, unit: u64, precision: u64) -> PlacedLimb
     requires { run_rule precision false (limb ∷ []) unit ≡ 0 }
-    ensures { limb % 2 ^ (64 - precision) ≡ 0 → (mode : ℕ) (negative : Bool) → (result.placed ≡ rounded_placed mode precision negative unit false (limb ∷ []) 0 false) × (result.limb ∷ [] ≡ rounded_limbs mode precision negative unit false (limb ∷ []) 0 false) }
+    ensures { limb % 2 ^ (64 - precision) ≡ 0 → (mode : Mode) (negative : Bool) → (result.placed ≡ rounded_placed mode precision negative unit false (limb ∷ []) 0 false) × (result.limb ∷ [] ≡ rounded_limbs mode precision negative unit false (limb ∷ []) 0 false) }
 {
     let zeros = u64::leading_zeros(limb) as u64;
     settle_limb(limb << zeros, unit + 128 - zeros, 0)

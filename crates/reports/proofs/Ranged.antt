@@ -6,7 +6,8 @@ use native.Mathlib.Omega.{arith}
 use lib.Dec.{ltb}
 use Rattle.numbers.specs.Limits.{bias, least_exponent, most_exponent}
 use Rattle.numbers.specs.Operand.{Operand}
-use Rattle.rounding.specs.Mode.{Mode, way}
+use Rattle.rounding.specs.Mode.{way}
+use Rattle.rounding.specs.declared.Mode.{Mode}
 use Rattle.rounding.specs.Answer.{Answer, zero_of, number, too_large, too_small, rounded, answer}
 use Rattle.rounding.specs.Sum.{sum_at, add}
 use Rattle.rounding.proofs.Range.{accepted_only}

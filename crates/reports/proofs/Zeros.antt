@@ -7,7 +7,7 @@ use lib.ListN.{replicate}
 use Rattle.rounding.proofs.Zeros.{share_zero}
 use Rattle.numbers.specs.Limits.{limbs_for}
 use Rattle.numbers.specs.Operand.{Operand}
-use Rattle.rounding.specs.Mode.{Mode}
+use Rattle.rounding.specs.declared.Mode.{Mode}
 use Rattle.rounding.specs.Answer.{Answer, zero_of, answer}
 use Rattle.rounding.specs.Sum.{zero_sign, sum_at, add}
 use Rattle.depth.specs.Columns.{top_exponent, limbs_used}

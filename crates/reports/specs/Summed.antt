@@ -1,7 +1,8 @@
 -- What add, subtract and re-round answer, and what they leave in the target. Definitions only.
 use Rattle.std.specs.Prelude.{ℕ, ◌≤◌, ◌≡◌, List, pos, length}
 use Rattle.numbers.specs.Operand.{Operand, zero_like}
-use Rattle.rounding.specs.Mode.{Mode, mode_of}
+use Rattle.rounding.specs.Mode.{mode_of}
+use Rattle.rounding.specs.declared.Mode.{Mode}
 use Rattle.rounding.specs.Answer.{Answer, zero_of, number, too_large, too_small}
 use Rattle.depth.specs.Columns.{top_exponent, limbs_used}
 use Rattle.depth.specs.Depth.{Operation, plus, result, Depth}

@@ -1,7 +1,6 @@
 // What a sum reports.
 ghost use Rattle.std.specs.Prelude.{◌≡◌, ◌^◌, ◌≤◌};
 ghost use Rattle.numbers.specs.Limits.{least_exponent, most_exponent};
-ghost use Rattle.rounding.specs.Mode.{mode_of};
 ghost use Rattle.rounding.specs.Answer.{Answer, zero_of};
 ghost use Rattle.rounding.specs.Sum.{zero_sign};
 ghost use Rattle.checks.specs.Number.{exponent_of};
@@ -14,6 +13,7 @@ ghost use Rattle.reports.specs.Counts.{used_of};
 
 use checks::{Kind, Number, Refusal};
 use place::Placed;
+use rounding::Mode;
 
 // The depth, the number, the limbs used of the first operand and of the second, the ternary value, and the refusal. No two of the three
 // counts stand side by side, so that two of them, written one by one, are not read as one.
@@ -48,8 +48,8 @@ pub fn refused(refusal: Refusal, depth: u64, first: u64, second: u64) -> Sum
 }
 
 // The sign of a zero sum, the one place that says it: one sign stays, and of two it is plus.
-pub fn zero_sign(mode: u8, a: bool, b: bool) -> bool
-    ensures { result ≡ zero_sign (mode_of mode) a b }
+pub fn zero_sign(mode: Mode, a: bool, b: bool) -> bool
+    ensures { result ≡ zero_sign mode a b }
 {
     if a == b { a } else { false }
 }

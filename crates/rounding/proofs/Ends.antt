@@ -6,7 +6,8 @@ use native.Mathlib.Nat.{le_antisymm, le_trans, le_of_eq, le_of_lt, lt_of_lt_of_l
 use native.Mathlib.Omega.{arith}
 use borrow.Author.Tests.{lt-ltb, le-ltb}
 use lib.Dec.{ltb}
-use Rattle.rounding.specs.Mode.{Mode, Way, way}
+use Rattle.rounding.specs.Mode.{Way, way}
+use Rattle.rounding.specs.declared.Mode.{Mode}
 use Rattle.rounding.specs.Answer.{zero_of, number, too_large, too_small, digits, signed, ranged, rounded, answer}
 use Rattle.numbers.specs.Limits.{least_exponent, most_exponent}
 use Rattle.rounding.specs.Select.{chosen}

@@ -11,7 +11,8 @@ use lib.Ieee.{size}
 use Rattle.limb.specs.Value.{value_in}
 use Rattle.numbers.specs.Limits.{least_precision, most_precision, bias, least_exponent, most_exponent, limbs_for}
 use Rattle.numbers.specs.Operand.{Operand, last_weight, mantissa, spare_bits, turned, WellFormed}
-use Rattle.rounding.specs.Mode.{Mode, upward, downward, Way, way}
+use Rattle.rounding.specs.Mode.{Way, way}
+use Rattle.rounding.specs.declared.Mode.{Mode}
 use Rattle.rounding.specs.Select.{chosen, unit, quotient, on_grid}
 use Rattle.rounding.specs.Answer.{too_large, too_small, answer, rounded, ranged, digits, signed}
 use Rattle.rounding.specs.Sum.{add, subtract, sum_at, amount, share, scale, zero_sign, cancelled}
@@ -20,6 +21,7 @@ use Rattle.rounding.proofs.Formed.{all, are_limbs, tests, formed}
 use Rattle.rounding.proofs.Ends.{plus}
 use Rattle.rounding.proofs.Scale.{exact}
 use Rattle.rounding.proofs.Range.{refused_large, refused_small}
+use Rattle.rounding.specs.declared.Mode.TheVariants.{Upward, Downward}
 
 -- two functions that agree on a list agree at each of its members
 agree : {A : Type 0} (f g : Row → A) (r : Row) {l : List Row} → Memᴰ r l → map f l ≡ map g l → f r ≡ g r
@@ -58,10 +60,10 @@ marked_twelve o p P =
 
 -- ---- row 11
 
-pub marked_eleven_up : add upward 4 (shown 4 0b1111 most_exponent) (shown 2 0b10 (most_exponent - 5)) ≡ too_large
+pub marked_eleven_up : add Upward 4 (shown 4 0b1111 most_exponent) (shown 2 0b10 (most_exponent - 5)) ≡ too_large
 unfolding add sum_at amount answer rounded ranged digits signed chosen on_grid unit quotient way share scale zero_sign last_weight mantissa spare_bits limbs_for bias most_exponent value_in size
 marked_eleven_up = refl
 
-pub marked_eleven_down : add downward 4 (shown 4 0b1111 most_exponent) (shown 2 0b10 (most_exponent - 5)) ≡ gives 0b1111 most_exponent Ordering.lt
+pub marked_eleven_down : add Downward 4 (shown 4 0b1111 most_exponent) (shown 2 0b10 (most_exponent - 5)) ≡ gives 0b1111 most_exponent Ordering.lt
 unfolding add sum_at amount answer rounded ranged digits signed chosen on_grid unit quotient way share scale zero_sign last_weight mantissa spare_bits limbs_for bias least_exponent most_exponent value_in size
 marked_eleven_down = refl

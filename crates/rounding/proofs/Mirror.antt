@@ -6,19 +6,21 @@ use lib.Dec.{ltb}
 use lib.Ieee.{size}
 use Rattle.numbers.specs.Limits.{least_exponent, most_exponent}
 use Rattle.numbers.specs.Operand.{Operand, mantissa, last_weight, turned}
-use Rattle.rounding.specs.Mode.{Mode, nearest, zeroward, upward, downward, Way, way}
+use Rattle.rounding.specs.Mode.{Way, way}
+use Rattle.rounding.specs.declared.Mode.{Mode}
 use Rattle.rounding.specs.Select.{chosen}
 use Rattle.rounding.specs.Answer.{Answer, zero_of, number, too_large, too_small, ranged, digits, signed, rounded}
 use Rattle.rounding.specs.Sum.{scale, amount, share, add}
 use Rattle.rounding.specs.Paper.{Exact}
 use Rattle.rounding.proofs.Summed.{add_rounds}
+use Rattle.rounding.specs.declared.Mode.TheVariants.{Nearest, Zeroward, Upward, Downward}
 
 -- the mode that does below zero what o does above
 unfoldable pub mirrored : Mode → Mode
-mirrored nearest = nearest
-mirrored zeroward = zeroward
-mirrored upward = downward
-mirrored downward = upward
+mirrored Nearest = Nearest
+mirrored Zeroward = Zeroward
+mirrored Upward = Downward
+mirrored Downward = Upward
 
 -- an answer with the other sign
 unfoldable pub negated : Answer → Answer
@@ -29,12 +31,12 @@ negated too_small = too_small
 
 way_mirrored : (o : Mode) (n : Bool) → way (mirrored o) (not n) ≡ way o n
 unfolding way mirrored
-way_mirrored nearest n = refl
-way_mirrored zeroward n = refl
-way_mirrored upward true = refl
-way_mirrored upward false = refl
-way_mirrored downward true = refl
-way_mirrored downward false = refl
+way_mirrored Nearest n = refl
+way_mirrored Zeroward n = refl
+way_mirrored Upward true = refl
+way_mirrored Upward false = refl
+way_mirrored Downward true = refl
+way_mirrored Downward false = refl
 
 signed_not : (n : Bool) (t : Ordering) → signed (not n) t ≡ signed true (signed n t)
 unfolding signed

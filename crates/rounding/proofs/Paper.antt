@@ -7,7 +7,8 @@ use Prim.Native.Nat.{ℕ, zero, suc, ◌+◌, ◌*◌, ◌%◌, ◌^◌, ◌≤�
 use native.Mathlib.Nat.{le_trans, le_of_eq, le_antisymm, mul-pos}
 use native.Mathlib.Omega.{arith}
 use lib.Pow.{pow_pos, pow-lt}
-use Rattle.rounding.specs.Mode.{Mode, nearest, zeroward, upward, downward, near, under, way}
+use Rattle.rounding.specs.Mode.{near, under, way}
+use Rattle.rounding.specs.declared.Mode.{Mode}
 use Rattle.rounding.specs.Select.{chosen}
 use Rattle.rounding.specs.Answer.{digits, signed}
 use Rattle.rounding.specs.Paper.{Same, Down, Up, ToZero, Nearest, Asks, Sign}
@@ -17,6 +18,7 @@ use Rattle.rounding.proofs.Order.{dist, Cmp, cmp}
 use Rattle.rounding.proofs.Scale.{chosen_shift, chosen_pos}
 use Rattle.rounding.proofs.Even.{near_even}
 use Rattle.rounding.proofs.Unique.{under_unique, over_unique, near_unique}
+use Rattle.rounding.specs.declared.Mode.TheVariants as mode
 
 -- what `answer` selects for ± m
 unfoldable pub selected : Mode → ℕ → Bool → ℕ → ℕ
@@ -30,24 +32,24 @@ no_digit p = record { digits = 0; shift = 0; few = pow_pos p; is = refl }
 
 -- ---- each part of what is asked
 
-pub down_below : (p : ℕ) (n : Bool) (m : ℕ) → Le n (selected downward p n m) n m
+pub down_below : (p : ℕ) (n : Bool) (m : ℕ) → Le n (selected mode.Downward p n m) n m
 unfolding selected way
 down_below p false m = under_le p m
 down_below p true m = over_ge p m
 
-pub down_largest : (p : ℕ) (n : Bool) (m : ℕ) → 0 < p → 0 < m → (t : Bool) (k : ℕ) → Rep p k → Le t k n m → Le t k n (selected downward p n m)
+pub down_largest : (p : ℕ) (n : Bool) (m : ℕ) → 0 < p → 0 < m → (t : Bool) (k : ℕ) → Rep p k → Le t k n m → Le t k n (selected mode.Downward p n m)
 unfolding selected way
 down_largest p false m P M false k r h = under_largest p m k P r h
 down_largest p false m P M true k r h = tt
 down_largest p true m P M true k r h = over_smallest p m k P r h
 down_largest p true m P M false k r h = absurd (omega arith)
 
-pub up_above : (p : ℕ) (n : Bool) (m : ℕ) → Le n m n (selected upward p n m)
+pub up_above : (p : ℕ) (n : Bool) (m : ℕ) → Le n m n (selected mode.Upward p n m)
 unfolding selected way
 up_above p false m = over_ge p m
 up_above p true m = under_le p m
 
-pub up_smallest : (p : ℕ) (n : Bool) (m : ℕ) → 0 < p → 0 < m → (t : Bool) (k : ℕ) → Rep p k → Le n m t k → Le n (selected upward p n m) t k
+pub up_smallest : (p : ℕ) (n : Bool) (m : ℕ) → 0 < p → 0 < m → (t : Bool) (k : ℕ) → Rep p k → Le n m t k → Le n (selected mode.Upward p n m) t k
 unfolding selected way
 up_smallest p false m P M false k r h = over_smallest p m k P r h
 up_smallest p false m P M true k r h = absurd (omega arith)
@@ -58,7 +60,7 @@ up_smallest p true m P M false k r h = tt
 across : (m k s : ℕ) → dist s m ≤ dist 0 m → dist s m ≤ k + m
 across m k s h = omega arith
 
-pub nearest_closest : (p : ℕ) (n : Bool) (m : ℕ) → 0 < p → (t : Bool) (k : ℕ) → Rep p k → apart n (selected nearest p n m) n m ≤ apart t k n m
+pub nearest_closest : (p : ℕ) (n : Bool) (m : ℕ) → 0 < p → (t : Bool) (k : ℕ) → Rep p k → apart n (selected mode.Nearest p n m) n m ≤ apart t k n m
 unfolding selected way
 nearest_closest p false m P false k r = near_closest p m k P r
 nearest_closest p true m P true k r = near_closest p m k P r
@@ -72,14 +74,14 @@ module _ (p : ℕ) (n : Bool) (m : ℕ) (P : 0 < p) (M : 0 < m) where
   unfolding selected
   fits o = chosen_rep (way o n) p m P
 
-  down : Down p n m n (selected downward p n m)
-  down = record { fits = fits downward; not_above = down_below p n m; largest = down_largest p n m P M }
+  down : Down p n m n (selected mode.Downward p n m)
+  down = record { fits = fits mode.Downward; not_above = down_below p n m; largest = down_largest p n m P M }
 
-  up : Up p n m n (selected upward p n m)
-  up = record { fits = fits upward; not_below = up_above p n m; smallest = up_smallest p n m P M }
+  up : Up p n m n (selected mode.Upward p n m)
+  up = record { fits = fits mode.Upward; not_below = up_above p n m; smallest = up_smallest p n m P M }
 
 -- what is not above in size is one of the two, and no larger than the other
-toward_zero : (p : ℕ) (n : Bool) (m : ℕ) → 0 < p → 0 < m → ToZero p n m n (selected zeroward p n m)
+toward_zero : (p : ℕ) (n : Bool) (m : ℕ) → 0 < p → 0 < m → ToZero p n m n (selected mode.Zeroward p n m)
 unfolding selected way
 toward_zero p false m P M = record { one = inl (down p false m P M); nearer = nearer }
   where
@@ -96,7 +98,7 @@ toward_zero p true m P M = record { one = inr (up p true m P M); nearer = nearer
     nearer true k (inr u) = u.smallest true (chosen under p m) (chosen_rep under p m P) (under_le p m)
     nearer false k (inr u) = let h = u.smallest true (chosen under p m) (chosen_rep under p m P) (under_le p m) in omega arith
 
-closest_even : (p : ℕ) (n : Bool) (m : ℕ) → 2 ≤ p → 0 < m → Nearest p n m n (selected nearest p n m)
+closest_even : (p : ℕ) (n : Bool) (m : ℕ) → 2 ≤ p → 0 < m → Nearest p n m n (selected mode.Nearest p n m)
 unfolding selected way
 closest_even zero n m P M = absurd (omega arith)
 closest_even (suc p) n m P M = record { fits = chosen_rep near (suc p) m (some p); closest = nearest_closest (suc p) n m (some p); even = even n }
@@ -139,50 +141,50 @@ module _ (p : ℕ) (n : Bool) (m j : ℕ) (P : 2 ≤ p) (M : 0 < m) where
   unfolding selected
   same o = chosen_shift (way o n) p m j one
 
-  pub selected_is_down : Down p n (m * 2 ^ j) n (selected downward p n m * 2 ^ j)
-  selected_is_down = subst (Down p n (m * 2 ^ j) n) (same downward) (down p n (m * 2 ^ j) one finer)
+  pub selected_is_down : Down p n (m * 2 ^ j) n (selected mode.Downward p n m * 2 ^ j)
+  selected_is_down = subst (Down p n (m * 2 ^ j) n) (same mode.Downward) (down p n (m * 2 ^ j) one finer)
 
-  pub selected_is_up : Up p n (m * 2 ^ j) n (selected upward p n m * 2 ^ j)
-  selected_is_up = subst (Up p n (m * 2 ^ j) n) (same upward) (up p n (m * 2 ^ j) one finer)
+  pub selected_is_up : Up p n (m * 2 ^ j) n (selected mode.Upward p n m * 2 ^ j)
+  selected_is_up = subst (Up p n (m * 2 ^ j) n) (same mode.Upward) (up p n (m * 2 ^ j) one finer)
 
-  pub selected_is_toward_zero : ToZero p n (m * 2 ^ j) n (selected zeroward p n m * 2 ^ j)
-  selected_is_toward_zero = subst (ToZero p n (m * 2 ^ j) n) (same zeroward) (toward_zero p n (m * 2 ^ j) one finer)
+  pub selected_is_toward_zero : ToZero p n (m * 2 ^ j) n (selected mode.Zeroward p n m * 2 ^ j)
+  selected_is_toward_zero = subst (ToZero p n (m * 2 ^ j) n) (same mode.Zeroward) (toward_zero p n (m * 2 ^ j) one finer)
 
-  pub selected_is_nearest : Nearest p n (m * 2 ^ j) n (selected nearest p n m * 2 ^ j)
-  selected_is_nearest = subst (Nearest p n (m * 2 ^ j) n) (same nearest) (closest_even p n (m * 2 ^ j) P finer)
+  pub selected_is_nearest : Nearest p n (m * 2 ^ j) n (selected mode.Nearest p n m * 2 ^ j)
+  selected_is_nearest = subst (Nearest p n (m * 2 ^ j) n) (same mode.Nearest) (closest_even p n (m * 2 ^ j) P finer)
 
   pub selected_is_asked : (o : Mode) → Asks o p n (m * 2 ^ j) n (selected o p n m * 2 ^ j)
-  selected_is_asked nearest = selected_is_nearest
-  selected_is_asked zeroward = selected_is_toward_zero
-  selected_is_asked upward = selected_is_up
-  selected_is_asked downward = selected_is_down
+  selected_is_asked mode.Nearest = selected_is_nearest
+  selected_is_asked mode.Zeroward = selected_is_toward_zero
+  selected_is_asked mode.Upward = selected_is_up
+  selected_is_asked mode.Downward = selected_is_down
 
 -- ---- nothing else is what is asked
 
-pub down_unique : (p : ℕ) (n : Bool) (m : ℕ) (t : Bool) (c : ℕ) → 0 < p → 0 < m → Down p n m t c → (t ≡ n) × (c ≡ selected downward p n m)
+pub down_unique : (p : ℕ) (n : Bool) (m : ℕ) (t : Bool) (c : ℕ) → 0 < p → 0 < m → Down p n m t c → (t ≡ n) × (c ≡ selected mode.Downward p n m)
 unfolding selected way
 down_unique p false m false c P M d = (refl, under_unique p m c P d.fits d.not_above (d.largest false))
 down_unique p true m true c P M d = (refl, over_unique p m c P d.fits d.not_above (d.largest true))
 down_unique p false m true c P M d = let h = d.largest false 1 (one_digit p P) M in absurd (omega arith)
 down_unique p true m false c P M d = let h = d.not_above in absurd (omega arith)
 
-pub up_unique : (p : ℕ) (n : Bool) (m : ℕ) (t : Bool) (c : ℕ) → 0 < p → 0 < m → Up p n m t c → (t ≡ n) × (c ≡ selected upward p n m)
+pub up_unique : (p : ℕ) (n : Bool) (m : ℕ) (t : Bool) (c : ℕ) → 0 < p → 0 < m → Up p n m t c → (t ≡ n) × (c ≡ selected mode.Upward p n m)
 unfolding selected way
 up_unique p false m false c P M d = (refl, over_unique p m c P d.fits d.not_below (d.smallest false))
 up_unique p true m true c P M d = (refl, under_unique p m c P d.fits d.not_below (d.smallest true))
 up_unique p false m true c P M d = let h = d.not_below in absurd (omega arith)
 up_unique p true m false c P M d = let h = d.smallest true 1 (one_digit p P) M in absurd (omega arith)
 
-pub toward_zero_unique : (p : ℕ) (n : Bool) (m : ℕ) (t : Bool) (c : ℕ) → 0 < p → 0 < m → ToZero p n m t c → (t ≡ n) × (c ≡ selected zeroward p n m)
+pub toward_zero_unique : (p : ℕ) (n : Bool) (m : ℕ) (t : Bool) (c : ℕ) → 0 < p → 0 < m → ToZero p n m t c → (t ≡ n) × (c ≡ selected mode.Zeroward p n m)
 toward_zero_unique p n m t c P M d =
     let z = toward_zero p n m P M in
-    (sign d.one, le_antisymm (d.nearer n (selected zeroward p n m) z.one) (z.nearer t c d.one))
+    (sign d.one, le_antisymm (d.nearer n (selected mode.Zeroward p n m) z.one) (z.nearer t c d.one))
   where
     sign : Down p n m t c ⊎ Up p n m t c → t ≡ n
     sign (inl x) = (down_unique p n m t c P M x).0
     sign (inr x) = (up_unique p n m t c P M x).0
 
-pub nearest_unique : (p : ℕ) (n : Bool) (m : ℕ) (t : Bool) (c : ℕ) → 2 ≤ p → 0 < m → Nearest p n m t c → (t ≡ n) × (c ≡ selected nearest p n m)
+pub nearest_unique : (p : ℕ) (n : Bool) (m : ℕ) (t : Bool) (c : ℕ) → 2 ≤ p → 0 < m → Nearest p n m t c → (t ≡ n) × (c ≡ selected mode.Nearest p n m)
 unfolding selected way
 nearest_unique zero n m t c P M d = absurd (omega arith)
 nearest_unique (suc p) n m t c P M d = go n t d.fits d.closest d.even
@@ -205,10 +207,10 @@ nearest_unique (suc p) n m t c P M d = go n t d.fits d.closest d.even
     go true false r f g = absurd (closer (f true 1 (one_digit (suc p) (some p))))
 
 pub asked_unique : (o : Mode) (p : ℕ) (n : Bool) (m : ℕ) (t : Bool) (c : ℕ) → 2 ≤ p → 0 < m → Asks o p n m t c → (t ≡ n) × (c ≡ selected o p n m)
-asked_unique nearest p n m t c P M d = nearest_unique p n m t c P M d
-asked_unique zeroward p n m t c P M d = toward_zero_unique p n m t c (omega arith) M d
-asked_unique upward p n m t c P M d = up_unique p n m t c (omega arith) M d
-asked_unique downward p n m t c P M d = down_unique p n m t c (omega arith) M d
+asked_unique mode.Nearest p n m t c P M d = nearest_unique p n m t c P M d
+asked_unique mode.Zeroward p n m t c P M d = toward_zero_unique p n m t c (omega arith) M d
+asked_unique mode.Upward p n m t c P M d = up_unique p n m t c (omega arith) M d
+asked_unique mode.Downward p n m t c P M d = down_unique p n m t c (omega arith) M d
 
 pub asked_once : (o : Mode) (p : ℕ) (n : Bool) (m : ℕ) (t : Bool) (c : ℕ) (b : Bool) (k : ℕ) → 2 ≤ p → 0 < m → Asks o p n m t c → Asks o p n m b k → (t ≡ b) × (c ≡ k)
 asked_once o p n m t c b k P M d e =

@@ -9,7 +9,8 @@ use lib.Pow.{pow_pos, pow_mono, pow-add}
 use lib.Ieee.{size}
 use lib.Ieee.Digits.{size-lt, size_reaches}
 use Rattle.numbers.specs.Limits.{bias, least_exponent, most_exponent}
-use Rattle.rounding.specs.Mode.{Mode, Way, way}
+use Rattle.rounding.specs.Mode.{Way, way}
+use Rattle.rounding.specs.declared.Mode.{Mode}
 use Rattle.rounding.specs.Select.{chosen}
 use Rattle.rounding.specs.Answer.{Answer, number, too_large, too_small, ranged, digits, rounded}
 use Rattle.rounding.specs.Paper.{Asks, Written, kept}

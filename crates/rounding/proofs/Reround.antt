@@ -11,7 +11,8 @@ use Rattle.numbers.specs.Limits.{least_exponent, most_precision}
 use Rattle.numbers.specs.Operand.{Operand, mantissa, last_weight, WellFormed, turned, zero_like}
 use Rattle.numbers.proofs.Limits.{weights_counted}
 use Rattle.numbers.proofs.Digits.{precision_two, mantissa_lt, mantissa_ge, turned_well_formed}
-use Rattle.rounding.specs.Mode.{Mode, way}
+use Rattle.rounding.specs.Mode.{way}
+use Rattle.rounding.specs.declared.Mode.{Mode}
 use Rattle.rounding.specs.Select.{chosen}
 use Rattle.rounding.specs.Answer.{zero_of, number, digits, signed, rounded, answer}
 use Rattle.rounding.specs.Sum.{scale, amount, share, zero_sign, sum_at, add, subtract, reround}

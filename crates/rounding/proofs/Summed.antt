@@ -5,7 +5,8 @@ use Prim.Native.Nat.{ℕ, ◌+◌, ◌-◌, ◌≤◌, ◌<◌}
 use native.Mathlib.Omega.{arith}
 use lib.Ieee.{size}
 use Rattle.numbers.specs.Operand.{Operand}
-use Rattle.rounding.specs.Mode.{Mode, way}
+use Rattle.rounding.specs.Mode.{way}
+use Rattle.rounding.specs.declared.Mode.{Mode}
 use Rattle.rounding.specs.Answer.{ranged, rounded}
 use Rattle.rounding.specs.Sum.{scale, zero_sign, sum_at, add}
 use Rattle.rounding.specs.Paper.{Asks, Exact, kept}

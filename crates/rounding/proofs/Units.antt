@@ -8,7 +8,8 @@ use lib.Pow.{pow_pos, pow-add}
 use lib.Ieee.{size}
 use Rattle.numbers.specs.Limits.{most_exponent}
 use Rattle.numbers.specs.Operand.{Operand, mantissa, last_weight}
-use Rattle.rounding.specs.Mode.{Mode, Way, way}
+use Rattle.rounding.specs.Mode.{Way, way}
+use Rattle.rounding.specs.declared.Mode.{Mode}
 use Rattle.rounding.specs.Select.{chosen}
 use Rattle.rounding.specs.Answer.{number, digits, signed, rounded, answer}
 use Rattle.rounding.specs.Sum.{scale, amount, share, zero_sign, sum_at, add}

@@ -6,7 +6,8 @@ use Prim.Native.Nat.{ℕ, ◌+◌, ◌-◌, ◌*◌, ◌^◌, ◌<◌, compare, 
 use native.Mathlib.Nat.{add_comm, min_comm}
 use native.Mathlib.Omega.{arith}
 use Rattle.numbers.specs.Operand.{Operand, mantissa, last_weight, turned, zero_like}
-use Rattle.rounding.specs.Mode.{Mode, way}
+use Rattle.rounding.specs.Mode.{way}
+use Rattle.rounding.specs.declared.Mode.{Mode}
 use Rattle.rounding.specs.Answer.{zero_of}
 use Rattle.rounding.specs.Sum.{scale, amount, share, cancelled, zero_sign, sum_at, add, subtract, reround}
 use Rattle.rounding.proofs.Order.{Cmp, cmp}

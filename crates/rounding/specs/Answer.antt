@@ -3,7 +3,8 @@ use Prim.Native.Nat.{ℕ, ◌+◌, ◌-◌, ◌*◌, ◌/◌, ◌^◌, compare, 
 use Rattle.std.specs.Prelude.{Bool, true, false, cond, ltb}
 use Rattle.std.specs.Float.Ieee.{size}
 use Rattle.numbers.specs.Limits.{least_exponent, most_exponent}
-use Rattle.rounding.specs.Mode.{Mode, Way, way}
+use Rattle.rounding.specs.Mode.{Way, way}
+use Rattle.rounding.specs.declared.Mode.{Mode}
 use Rattle.rounding.specs.Select.{chosen}
 
 -- `zero_of negative`; `number negative exponent mantissa ternary`; refusals 6 and 7

@@ -4,9 +4,10 @@ use Prim.Native.Nat.{ℕ, ◌+◌, ◌-◌, ◌*◌, ◌%◌, ◌^◌, ◌≤◌
 use Rattle.std.specs.Prelude.{◌≡◌, ◌⊎◌, Bool, true, false, not}
 use Rattle.std.specs.Float.Ieee.{size}
 use Rattle.numbers.specs.Operand.{Operand}
-use Rattle.rounding.specs.Mode.{Mode, nearest, zeroward, upward, downward}
+use Rattle.rounding.specs.declared.Mode.{Mode}
 use Rattle.rounding.specs.Answer.{Answer, number, digits, signed}
 use Rattle.rounding.specs.Sum.{share}
+use Rattle.rounding.specs.declared.Mode.TheVariants as mode
 
 -- a p-digit number: some digits, at most p of them, and a weight. "The exponent is unbounded while selecting."
 pub record Rep (p n : ℕ) : Type 0 where
@@ -64,10 +65,10 @@ pub record Nearest (p : ℕ) (n : Bool) (m : ℕ) (t : Bool) (c : ℕ) : Type 0 
 
 -- what a mode asks
 abbrev pub Asks : Mode → ℕ → Bool → ℕ → Bool → ℕ → Type 0
-Asks nearest = Nearest
-Asks zeroward = ToZero
-Asks upward = Up
-Asks downward = Down
+Asks mode.Nearest = Nearest
+Asks mode.Zeroward = ToZero
+Asks mode.Upward = Up
+Asks mode.Downward = Down
 
 -- "The ternary value is -1, 0 or 1: the sign of selected minus exact": -1 where not exact ≤ selected, 1 where not selected ≤ exact
 abbrev pub Sign : Ordering → Bool → ℕ → Bool → ℕ → Type 0

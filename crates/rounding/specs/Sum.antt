@@ -2,7 +2,7 @@
 use Rattle.std.specs.Prelude.{ℕ, ◌+◌, ◌-◌, ◌*◌, ◌^◌, min, Bool, true, false, cond}
 use Rattle.std.specs.Bool.{beq}
 use Rattle.numbers.specs.Operand.{Operand, mantissa, last_weight, turned, zero_like}
-use Rattle.rounding.specs.Mode.{Mode}
+use Rattle.rounding.specs.declared.Mode.{Mode}
 use Rattle.rounding.specs.Answer.{Answer, answer}
 
 -- "The exact value is a whole number once scaled by the lowest weight present": 2 ^ scale (of two zeros, any weight serves)

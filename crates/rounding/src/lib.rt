@@ -1,2 +1,35 @@
-// What a mode selects: definitions in specs/, that they are the paper's in proofs/.
+// The four modes. What a mode selects: definitions in specs/, that they are the paper's in proofs/.
 #![tactic(auto)]
+
+ghost use Rattle.std.specs.Prelude.{◌≡◌, ◌≤◌, ◌<◌, MatchResult};
+ghost use Rattle.rounding.specs.Mode.{mode_of};
+
+// To nearest with ties to the even last digit, toward zero, toward plus and toward minus infinity: numbers 0 to 3.
+#[derive(Clone, Copy, Debug, PartialEq, Eq)]
+pub enum Mode {
+    Nearest,
+    Zeroward,
+    Upward,
+    Downward,
+}
+
+// A number above 3, which is no mode.
+#[derive(Clone, Copy, Debug, PartialEq, Eq)]
+pub struct UnknownMode(pub u8);
+
+impl TryFrom<u8> for Mode {
+    type Error = UnknownMode;
+
+    ghost try_from_gives = { λ number result. MatchResult result (λ mode. (number ≤ 3) × (mode ≡ mode_of number)) (λ _. 3 < number) };
+
+    #[tactic(auto, unfolding(crate::specs::Mode::mode_of))]
+    fn try_from(number: u8) -> Result<Mode, UnknownMode> {
+        match number {
+            0 => Ok(Mode::Nearest),
+            1 => Ok(Mode::Zeroward),
+            2 => Ok(Mode::Upward),
+            3 => Ok(Mode::Downward),
+            _ => Err(UnknownMode(number)),
+        }
+    }
+}

@@ -17,10 +17,11 @@ use Rattle.numbers.specs.Limbs.{limbs_of}
 use Rattle.numbers.specs.Operand.{Operand, mantissa, last_weight, spare_bits, WellFormed}
 use Rattle.numbers.proofs.Digits.{mantissa_ge, digits_and_spare}
 use Rattle.numbers.proofs.Limits.{two_digits, limbs_hold, limbs_fewest}
-use Rattle.rounding.specs.Mode.{Way, mode_of, way}
+use Rattle.rounding.specs.Mode.{Way, way}
 use Rattle.rounding.specs.Select.{chosen}
 use Rattle.rounding.specs.Answer.{Answer, zero_of, number, too_large, too_small, rounded}
 use Rattle.rounding.proofs.Scale.{rounded_shift}
+use Rattle.rounding.specs.declared.Mode.{Mode}
 use Rattle.place.specs.declared.Placed.{Placed}
 use Rattle.place.specs.Placed.{run_number, run_answer, run_rule, placed_of, limbs_after}
 use Rattle.place.specs.Rounded.{rounded_placed, rounded_limbs}
@@ -124,9 +125,9 @@ module _ (x : Operand) (g : WellFormed x) (r : x.is_zero ≡ false) where
   unfolding last_weight
   weight_is = omega (arith, digits_and_spare x.precision, few_limbs, wide_exponent)
 
-  module _ (mode : ℕ) (h : Head) (l : Leads x.limbs h) where
+  module _ (mode : Mode) (h : Head) (l : Leads x.limbs h) where
     abbrev w : Way
-    w = way (mode_of mode) x.negative
+    w = way mode x.negative
 
     abbrev T : ℕ
     T = h.top * 2 ^ 64 + h.guard

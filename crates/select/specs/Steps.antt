@@ -2,8 +2,9 @@
 use Rattle.std.specs.Prelude.{ℕ, ◌+◌, ◌-◌, ◌*◌, ◌^◌, ◌<◌, ◌≡◌, not, List, [], ◌∷◌, eqb, length, get_or}
 use Rattle.limb.specs.Value.{value_of}
 use Rattle.numbers.specs.Operand.{Operand, mantissa, last_weight}
-use Rattle.rounding.specs.Mode.{mode_of, way}
+use Rattle.rounding.specs.Mode.{way}
 use Rattle.rounding.specs.Answer.{Answer, rounded}
+use Rattle.rounding.specs.declared.Mode.{Mode}
 use Rattle.place.specs.Placed.{placed_of, limbs_after}
 use Rattle.select.specs.declared.Head.{Head}
 use Rattle.select.specs.declared.Selected.{Selected}
@@ -18,9 +19,9 @@ pub record Leads (l : List ℕ) (h : Head) : Type 0 where
   pub more : h.more ≡ not (eqb rest 0)
 
 -- the number re-rounded to 53 digits, in the kernel's range of exponents
-unfoldable pub shortened : ℕ → Operand → Answer
-shortened mode x = rounded (way (mode_of mode) x.negative) double_precision (last_weight x) x.negative (mantissa x)
+unfoldable pub shortened : Mode → Operand → Answer
+shortened mode x = rounded (way mode x.negative) double_precision (last_weight x) x.negative (mantissa x)
 
-pub record Selects (mode : ℕ) (x : Operand) (r : Selected) : Type 0 where
+pub record Selects (mode : Mode) (x : Operand) (r : Selected) : Type 0 where
   pub placed : r.placed ≡ placed_of (shortened mode x)
   pub limb : r.limb ∷ [] ≡ limbs_after double_precision (shortened mode x)

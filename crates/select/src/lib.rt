@@ -9,6 +9,7 @@ ghost use Rattle.checks.specs.Number.{is_zero_kind, operand_of};
 
 use checks::Number;
 use place::Placed;
+use rounding::Mode;
 
 // The top limb, the limb below it, and whether anything stands below both.
 //
@@ -68,7 +69,7 @@ pub struct Selected {
 }
 
 // Of a regular number of good form, by its leading digits.
-pub fn select(mode: u8, x: Number, xl: &[u64], a: Head) -> Selected
+pub fn select(mode: Mode, x: Number, xl: &[u64], a: Head) -> Selected
     requires { WellFormed (operand_of x xl.now) × (is_zero_kind x.kind ≡ false) × Leads xl.now a }
     ensures { Selects mode (operand_of x xl.now) result }
 {

@@ -1,8 +1,10 @@
 // What is known of a sum after so many columns.
 ghost use Rattle.std.specs.Prelude.{◌≡◌, ◌+◌, ◌^◌, ◌≤◌};
-ghost use Rattle.rounding.specs.Mode.{mode_of, way};
+ghost use Rattle.rounding.specs.Mode.{way};
 ghost use Rattle.settle.specs.Ways.{theory_way};
 ghost use Rattle.settle.specs.Rows.{seen_row, far_row, row_of, Modest};
+
+use rounding::Mode;
 
 // A mode on sizes: to the closest, not above, not below.
 #[derive(Clone, Copy)]
@@ -13,19 +15,17 @@ pub enum Way {
 }
 
 // The way of a mode, of a number with that sign.
-pub fn way_of(mode: u8, negative: bool) -> Way
-    ensures { theory_way result ≡ way (mode_of mode) negative }
+#[tactic(auto, unfolding(crate::specs::Ways::theory_way, rounding::specs::Mode::way))]
+pub fn way_of(mode: Mode, negative: bool) -> Way
+    ensures { theory_way result ≡ way mode negative }
 {
-    if mode == 0 {
-        return Way::Near;
-    }
-    if mode == 1 {
-        return Way::Under;
-    }
-    if (mode == 2) == negative {
-        Way::Under
-    } else {
-        Way::Over
+    match (mode, negative) {
+        (Mode::Nearest, _) => Way::Near,
+        (Mode::Zeroward, _) => Way::Under,
+        (Mode::Upward, false) => Way::Over,
+        (Mode::Upward, true) => Way::Under,
+        (Mode::Downward, false) => Way::Under,
+        (Mode::Downward, true) => Way::Over,
     }
 }
 

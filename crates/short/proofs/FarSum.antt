@@ -15,7 +15,8 @@ use Rattle.limb.proofs.Value.{value_take_lt, base_pow}
 use Rattle.numbers.specs.Limits.{most_precision, limbs_for}
 use Rattle.numbers.specs.Operand.{Operand, spare_bits}
 use Rattle.numbers.proofs.Digits.{precision_two}
-use Rattle.rounding.specs.Mode.{Mode, Way, mode_of, way}
+use Rattle.rounding.specs.Mode.{Way, way}
+use Rattle.rounding.specs.declared.Mode.{Mode}
 use Rattle.rounding.specs.Answer.{rounded}
 use Rattle.rounding.specs.Sum.{add}
 use Rattle.decide.specs.Decide.{decide_at}
@@ -222,16 +223,16 @@ module _ (p : ℕ) (pair : Pair) (u v n : ℕ) (room : Room p n) (long : 2 < n) 
         run u Q B = omega arith
 
 -- what is told of a little less than the larger, where it stands in the target
-pub restored_left : (p : ℕ) (pair : Pair) (u v n : ℕ) → Room p n → 2 < n → p + 1 < pair.gap → (mode : ℕ) (x y : Operand) → Holding x y pair (u ∷ []) (v ∷ []) → (after : List ℕ) → length after ≡ n → Below (2 ^ 64) after
+pub restored_left : (p : ℕ) (pair : Pair) (u v n : ℕ) → Room p n → 2 < n → p + 1 < pair.gap → (mode : Mode) (x y : Operand) → Holding x y pair (u ∷ []) (v ∷ []) → (after : List ℕ) → length after ≡ n → Below (2 ^ 64) after
     → value_of after ≡ u * (2 ^ 64) ^ (n - 1) → pair.same ≡ false → (negative : Bool) → negative ≡ x.negative → {r : Placed}
-    → (Stored p pair.top after → (r ≡ placed_of (below_answer mode p negative pair.top after)) × (after ≡ limbs_after p (below_answer mode p negative pair.top after))) → Left p (add (mode_of mode) p x y) after r
+    → (Stored p pair.top after → (r ≡ placed_of (below_answer mode p negative pair.top after)) × (after ≡ limbs_after p (below_answer mode p negative pair.top after))) → Left p (add mode p x y) after r
 unfolding below_answer run_answer
 restored_left p pair u v n room long far mode x y h after count lim e s negative sign told =
-    let t = told (stored p pair u v n room long far (mode_of mode) x y h after count lim e) in
+    let t = told (stored p pair u v n room long far mode x y h after count lim e) in
     record { told = t.0 ∙ ap placed_of same; limbs = t.1 ∙ ap (limbs_after p) same }
   where
-    same : below_answer mode p negative pair.top after ≡ add (mode_of mode) p x y
-    same = rw sign (sym (restored_is p pair u v n room long far (mode_of mode) x y h after count lim s e))
+    same : below_answer mode p negative pair.top after ≡ add mode p x y
+    same = rw sign (sym (restored_is p pair u v n room long far mode x y h after count lim s e))
 
 -- one taken off, as the code does it
 pub fallen_value : (u n : ℕ) (before after : List ℕ) (out : Bool) → 1 < n → 2 ^ 63 ≤ u → Below (2 ^ 64) after → value_of before ≡ head_in (2 ^ 64) false u 0 * (2 ^ 64) ^ (n - 2) → Fallen 0 before after out → suc (value_of after) ≡ u * (2 ^ 64) ^ (n - 1)

@@ -18,7 +18,8 @@ use Rattle.numbers.specs.Limits.{least_exponent, most_exponent, limbs_for}
 use Rattle.numbers.specs.Limbs.{limbs_of}
 use Rattle.numbers.specs.Operand.{Operand, spare_bits}
 use Rattle.numbers.proofs.Digits.{limbs_count, limbs_below, limbs_value, digits_and_spare, precision_two}
-use Rattle.rounding.specs.Mode.{Mode, Way, way}
+use Rattle.rounding.specs.Mode.{Way, way}
+use Rattle.rounding.specs.declared.Mode.{Mode}
 use Rattle.rounding.specs.Answer.{number, digits}
 use Rattle.rounding.specs.Paper.{Rep, Written}
 use Rattle.rounding.specs.Sum.{add}

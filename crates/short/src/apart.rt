@@ -1,6 +1,6 @@
 // Two limbs further apart than the answer is long: the larger stands in the target, and a little more, or a little less, rounds as the other does. A little less that is taken up again leaves the larger as it is.
 ghost use Rattle.std.specs.Prelude.{◌≡◌, true, false, cond, [], ◌∷◌, ℕ, ◌+◌, ◌<◌, length};
-ghost use Rattle.rounding.specs.Mode.{mode_of, way};
+ghost use Rattle.rounding.specs.Mode.{way};
 ghost use Rattle.location.specs.declared.Location.TheVariants.{Upper};
 ghost use Rattle.location.specs.Location.{goes_up};
 ghost use Rattle.checks.specs.Room.{Room};
@@ -10,6 +10,7 @@ ghost use Rattle.short.specs.Short.{Answers, Tells};
 use crate::close::write;
 use location::{Location, rounds_up};
 use place::Placed;
+use rounding::Mode;
 use settle::Pair;
 use wide::{Attempt, Filled};
 
@@ -46,9 +47,16 @@ fn one(some: bool) -> u64
 }
 
 // Rounds what fills the target.
-fn round_filled(mode: u8, negative: bool, p: u64, pair: Pair, u: u64, target: &mut [u64]) -> Placed
+fn round_filled(
+    mode: Mode,
+    negative: bool,
+    p: u64,
+    pair: Pair,
+    u: u64,
+    target: &mut [u64],
+) -> Placed
     requires { Room p (length target.old) × (2 < length target.old) × ((v : ℕ) × Offered pair (u ∷ []) (v ∷ [])) × (p + 1 < pair.gap) }
-    ensures { (length target.new ≡ length target.old) × ((v : ℕ) → Answers (mode_of mode) p pair u v negative target.new result) }
+    ensures { (length target.new ≡ length target.old) × ((v : ℕ) → Answers mode p pair u v negative target.new result) }
 {
     let filled = fill(p, pair, u, target);
     place::round_fit(
@@ -64,8 +72,8 @@ fn round_filled(mode: u8, negative: bool, p: u64, pair: Pair, u: u64, target: &m
 }
 
 // Whether a little less than the larger is taken up to it again.
-fn is_restored(mode: u8, negative: bool, pair: Pair) -> bool
-    ensures { result ≡ true → (pair.same ≡ false) × (goes_up (way (mode_of mode) negative) Upper false ≡ true) }
+fn is_restored(mode: Mode, negative: bool, pair: Pair) -> bool
+    ensures { result ≡ true → (pair.same ≡ false) × (goes_up (way mode negative) Upper false ≡ true) }
 {
     if pair.same {
         return false;
@@ -74,9 +82,9 @@ fn is_restored(mode: u8, negative: bool, pair: Pair) -> bool
 }
 
 // Rounds the same, at once where the larger is left as it is.
-fn round(mode: u8, negative: bool, p: u64, pair: Pair, u: u64, target: &mut [u64]) -> Placed
+fn round(mode: Mode, negative: bool, p: u64, pair: Pair, u: u64, target: &mut [u64]) -> Placed
     requires { Room p (length target.old) × (2 < length target.old) × ((v : ℕ) × Offered pair (u ∷ []) (v ∷ [])) × (p + 1 < pair.gap) }
-    ensures { (length target.new ≡ length target.old) × ((v : ℕ) → Answers (mode_of mode) p pair u v negative target.new result) }
+    ensures { (length target.new ≡ length target.old) × ((v : ℕ) → Answers mode p pair u v negative target.new result) }
 {
     if is_restored(mode, negative, pair) {
         write(target, u, 0);
@@ -87,7 +95,7 @@ fn round(mode: u8, negative: bool, p: u64, pair: Pair, u: u64, target: &mut [u64
 
 // The sum of u and any limb so far below it.
 pub fn add_apart(
-    mode: u8,
+    mode: Mode,
     negative: bool,
     p: u64,
     pair: Pair,
@@ -96,7 +104,7 @@ pub fn add_apart(
     target: &mut [u64],
 ) -> Attempt
     requires { Room p (length target.old) × (2 < length target.old) × ((v : ℕ) × Offered pair (u ∷ []) (v ∷ [])) × (p + 1 < pair.gap) }
-    ensures { (length target.new ≡ length target.old) × (result.open ≡ false → (v : ℕ) → Tells (mode_of mode) p pair u v negative swapped target.new result) }
+    ensures { (length target.new ≡ length target.old) × (result.open ≡ false → (v : ℕ) → Tells mode p pair u v negative swapped target.new result) }
 {
     let placed = round(mode, negative, p, pair, u, target);
     Attempt {

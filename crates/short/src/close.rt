@@ -2,7 +2,7 @@
 ghost use Rattle.std.specs.Prelude.{◌≡◌, Bool, true, false, cond, [], ◌∷◌, ◌+◌, ◌-◌, ◌*◌, ◌%◌, ◌^◌, ◌≤◌, ◌<◌, ltb, leb, length};
 ghost use Rattle.limb.specs.Value.{value_of};
 ghost use Rattle.numbers.specs.Limits.{least_exponent, most_exponent};
-ghost use Rattle.rounding.specs.Mode.{Mode};
+ghost use Rattle.rounding.specs.declared.Mode.{Mode};
 ghost use Rattle.checks.specs.Room.{Room};
 ghost use Rattle.wide.specs.Filling.{Offered};
 ghost use Rattle.twolimbs.specs.Two.{head_in};

@@ -3,7 +3,6 @@
 
 ghost use Rattle.std.specs.Prelude.{◌≡◌, false, cond, [], ◌∷◌, ◌<◌, length};
 ghost use Rattle.numbers.specs.Operand.{Operand};
-ghost use Rattle.rounding.specs.Mode.{mode_of};
 ghost use Rattle.checks.specs.Room.{Room};
 ghost use Rattle.wide.specs.Filling.{Holding, Offered};
 ghost use Rattle.wide.specs.Attempted.{Attempted};
@@ -14,12 +13,13 @@ mod apart; // apart.rt: more than the answer apart
 
 use apart::add_apart;
 use close::add_close;
+use rounding::Mode;
 use settle::Pair;
 use wide::{Attempt, nothing};
 
 // Adds two limbs in order, u the larger.
 fn add_in_order(
-    mode: u8,
+    mode: Mode,
     negative: bool,
     p: u64,
     pair: Pair,
@@ -29,7 +29,7 @@ fn add_in_order(
     target: &mut [u64],
 ) -> Attempt
     requires { Room p (length target.old) × (2 < length target.old) × Offered pair (u ∷ []) (v ∷ []) }
-    ensures { (length target.new ≡ length target.old) × (result.open ≡ false → Tells (mode_of mode) p pair u v negative swapped target.new result) }
+    ensures { (length target.new ≡ length target.old) × (result.open ≡ false → Tells mode p pair u v negative swapped target.new result) }
 {
     if pair.gap < 64 {
         if bounds::is_high(pair.top) | bounds::is_low(pair.top, target.len() as u64) {
@@ -45,7 +45,7 @@ fn add_in_order(
 
 // Adds two regular numbers in order, of one limb each, unless they lie at the ends of the range, or are apart by a limb or more and no more than the answer is long.
 pub fn attempt(
-    mode: u8,
+    mode: Mode,
     negative: bool,
     p: u64,
     pair: Pair,
@@ -55,7 +55,7 @@ pub fn attempt(
     target: &mut [u64],
 ) -> Attempt
     requires { Room p (length target.old) × Offered pair first.now second.now × (length first.now ≡ 1) × (length second.now ≡ 1) × (2 < length target.old) }
-    ensures { (length target.new ≡ length target.old) × (result.open ≡ false → (z w : Operand) → Holding z w pair first.now second.now → negative ≡ z.negative → Attempted (mode_of mode) p z w target.new result.negative result.placed result.depth (cond swapped result.second result.first) (cond swapped result.first result.second)) }
+    ensures { (length target.new ≡ length target.old) × (result.open ≡ false → (z w : Operand) → Holding z w pair first.now second.now → negative ≡ z.negative → Attempted mode p z w target.new result.negative result.placed result.depth (cond swapped result.second result.first) (cond swapped result.first result.second)) }
 {
     let u = first[0];
     let v = second[0];

@@ -14,7 +14,8 @@ use Rattle.numbers.specs.Limbs.{limbs_of}
 use Rattle.numbers.specs.Operand.{Operand, spare_bits, WellFormed}
 use Rattle.numbers.proofs.Limits.{two_digits}
 use Rattle.numbers.proofs.Digits.{limbs_count, limbs_below, limbs_value, digits_and_spare}
-use Rattle.rounding.specs.Mode.{Mode, way}
+use Rattle.rounding.specs.Mode.{way}
+use Rattle.rounding.specs.declared.Mode.{Mode}
 use Rattle.rounding.specs.Answer.{Answer, zero_of, number, too_large, too_small, rounded, answer}
 use Rattle.rounding.specs.Sum.{sum_at, add, subtract}
 use Rattle.rounding.proofs.Range.{accepted_only, accepted_written}

@@ -10,7 +10,8 @@ use lib.ListN.{length, set}
 use Rattle.limb.proofs.Value.{one_written}
 use Rattle.numbers.specs.Operand.{Operand, WellFormed, zero_like}
 use Rattle.numbers.proofs.Digits.{zero_well_formed}
-use Rattle.rounding.specs.Mode.{Mode, mode_of}
+use Rattle.rounding.specs.Mode.{mode_of}
+use Rattle.rounding.specs.declared.Mode.{Mode}
 use Rattle.rounding.specs.Answer.{Answer}
 use Rattle.rounding.specs.Sum.{add}
 use Rattle.depth.specs.Depth.{plus, result}

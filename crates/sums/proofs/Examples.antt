@@ -13,11 +13,13 @@ use Rattle.limb.specs.Value.{value_in}
 use Rattle.numbers.specs.Limits.{least_precision, most_precision, bias, counted, least_exponent, most_exponent, limbs_for}
 use Rattle.numbers.specs.Limbs.{limbs_of}
 use Rattle.numbers.specs.Operand.{Operand, mantissa, last_weight, spare_bits, turned, zero_like}
-use Rattle.rounding.specs.Mode.{Mode, nearest, upward, way}
+use Rattle.rounding.specs.Mode.{way}
+use Rattle.rounding.specs.declared.Mode.{Mode}
 use Rattle.rounding.specs.Select.{quotient, on_grid, unit, chosen}
 use Rattle.rounding.specs.Answer.{Answer, number, too_large, too_small, ranged, digits, signed, rounded, answer}
 use Rattle.rounding.specs.Sum.{scale, amount, share, zero_sign, sum_at, add, subtract}
 use Rattle.rounding.proofs.Formed.{all, are_limbs, tests, formed}
+use Rattle.rounding.specs.declared.Mode.TheVariants.{Nearest, Upward}
 use Rattle.depth.specs.Columns.{top_exponent, limbs_used}
 use Rattle.depth.specs.Depth.{Operation, plus, minus, result, Depth}
 use Rattle.depth.specs.Bound.{columns_for, far_columns, bound_of, bound}
@@ -60,33 +62,33 @@ abbrev pub shown : ℕ → ℕ → ℕ → Operand
 shown q d e = record { negative = false; is_zero = false; precision = q; exponent = e; limbs = d * 2 ^ (64 - q) ∷ [] }
 
 -- document 01's case: 1 + 2^-5 in four digits, to the nearest, is 1, and more than that is exact
-pub case_reported : (exit : List ℕ) (r : Sum) → Reported plus nearest 4 (shown 4 0b1000 (bias + 1)) (shown 2 0b10 (bias - 4)) exit r
+pub case_reported : (exit : List ℕ) (r : Sum) → Reported plus Nearest 4 (shown 4 0b1000 (bias + 1)) (shown 2 0b10 (bias - 4)) exit r
     → (r ≡ record { number = given false Regular 4 (pos 1); ternary = negsuc 0; depth = 1; first = 1; second = 1; refusal = at 0 0 }) × (exit ≡ 2 ^ 63 ∷ [])
 unfolding result add sum_at amount answer rounded ranged digits signed chosen on_grid unit quotient way share scale zero_sign last_weight mantissa spare_bits limbs_for bias least_precision most_precision least_exponent most_exponent value_in size all tests are_limbs bound bound_of far_columns columns_for sum_of exponent_of accepted ternary_of limbs_used top_exponent limbs_after limbs_of
-case_reported exit r h = shallow plus nearest 4 (lit< tt) (shown 4 0b1000 (bias + 1)) (shown 2 0b10 (bias - 4)) tt tt refl refl (number false (bias + 1) 0b1000 Ordering.lt) refl exit r h
+case_reported exit r h = shallow plus Nearest 4 (lit< tt) (shown 4 0b1000 (bias + 1)) (shown 2 0b10 (bias - 4)) tt tt refl refl (number false (bias + 1) 0b1000 Ordering.lt) refl exit r h
 
 -- marked sum 10, in four digits to the nearest: refused 6 at place 3, depth 1; and 12, refused 7
-pub ten_reported : (exit : List ℕ) (r : Sum) → Reported plus nearest 4 (shown 2 0b10 most_exponent) (shown 2 0b10 most_exponent) exit r
+pub ten_reported : (exit : List ℕ) (r : Sum) → Reported plus Nearest 4 (shown 2 0b10 most_exponent) (shown 2 0b10 most_exponent) exit r
     → (r ≡ record { number = given false Zero 2 (pos 0); ternary = pos 0; depth = 1; first = 1; second = 1; refusal = at 6 3 }) × (exit ≡ 0 ∷ [])
 unfolding result add sum_at amount answer rounded ranged chosen on_grid unit quotient way share scale zero_sign last_weight mantissa spare_bits limbs_for bias least_precision most_precision least_exponent most_exponent value_in size all tests are_limbs bound bound_of far_columns columns_for sum_of refused_sum nothing limbs_used top_exponent limbs_after
-ten_reported exit r h = shallow plus nearest 4 (lit< tt) (shown 2 0b10 most_exponent) (shown 2 0b10 most_exponent) tt tt refl refl too_large refl exit r h
+ten_reported exit r h = shallow plus Nearest 4 (lit< tt) (shown 2 0b10 most_exponent) (shown 2 0b10 most_exponent) tt tt refl refl too_large refl exit r h
 
-pub twelve_reported : (exit : List ℕ) (r : Sum) → Reported minus nearest 4 (shown 2 0b11 least_exponent) (shown 2 0b10 least_exponent) exit r
+pub twelve_reported : (exit : List ℕ) (r : Sum) → Reported minus Nearest 4 (shown 2 0b11 least_exponent) (shown 2 0b10 least_exponent) exit r
     → (r ≡ record { number = given false Zero 2 (pos 0); ternary = pos 0; depth = 1; first = 1; second = 1; refusal = at 7 3 }) × (exit ≡ 0 ∷ [])
 unfolding result add subtract turned sum_at amount answer rounded ranged chosen on_grid unit quotient way share scale zero_sign last_weight mantissa spare_bits limbs_for bias least_precision most_precision least_exponent most_exponent value_in size all tests are_limbs bound bound_of far_columns columns_for sum_of refused_sum nothing limbs_used top_exponent limbs_after
-twelve_reported exit r h = shallow minus nearest 4 (lit< tt) (shown 2 0b11 least_exponent) (shown 2 0b10 least_exponent) tt tt refl refl too_small refl exit r h
+twelve_reported exit r h = shallow minus Nearest 4 (lit< tt) (shown 2 0b11 least_exponent) (shown 2 0b10 least_exponent) tt tt refl refl too_small refl exit r h
 
 -- as marked sum 11, up, with the second number farther: refused 6, and limbs 1 and 0 are reported
-pub eleven_farther : (exit : List ℕ) (r : Sum) → Reported plus upward 4 (shown 4 0b1111 most_exponent) (shown 2 0b10 (most_exponent - 100)) exit r
+pub eleven_farther : (exit : List ℕ) (r : Sum) → Reported plus Upward 4 (shown 4 0b1111 most_exponent) (shown 2 0b10 (most_exponent - 100)) exit r
     → (r ≡ record { number = given false Zero 2 (pos 0); ternary = pos 0; depth = 1; first = 1; second = 0; refusal = at 6 3 }) × (exit ≡ 0 ∷ [])
 unfolding result add sum_at amount answer rounded ranged chosen on_grid unit quotient way share scale zero_sign last_weight mantissa spare_bits limbs_for bias least_precision most_precision least_exponent most_exponent value_in size all tests are_limbs bound bound_of far_columns columns_for sum_of refused_sum nothing limbs_used top_exponent limbs_after
-eleven_farther exit r h = shallow plus upward 4 (lit< tt) (shown 4 0b1111 most_exponent) (shown 2 0b10 (most_exponent - 100)) tt tt refl refl too_large refl exit r h
+eleven_farther exit r h = shallow plus Upward 4 (lit< tt) (shown 4 0b1111 most_exponent) (shown 2 0b10 (most_exponent - 100)) tt tt refl refl too_large refl exit r h
 
 -- as marked sum 13, with the second number nearer: the last of 62 bits set, ternary value 1, depth 1, limbs 1 and 0
-pub thirteen_nearer : (exit : List ℕ) (r : Sum) → Reported plus upward 62 (shown 2 0b10 bias) (shown 2 0b10 (bias - 100)) exit r
+pub thirteen_nearer : (exit : List ℕ) (r : Sum) → Reported plus Upward 62 (shown 2 0b10 bias) (shown 2 0b10 (bias - 100)) exit r
     → (r ≡ record { number = given false Regular 62 (pos 0); ternary = pos 1; depth = 1; first = 1; second = 0; refusal = at 0 0 }) × (exit ≡ (2 ^ 63 + 2 ^ 2) ∷ [])
 unfolding result add sum_at amount answer rounded ranged digits signed chosen on_grid unit quotient way share scale zero_sign last_weight mantissa spare_bits limbs_for bias least_precision most_precision least_exponent most_exponent value_in size all tests are_limbs bound bound_of far_columns columns_for sum_of exponent_of accepted ternary_of limbs_used top_exponent limbs_after limbs_of
-thirteen_nearer exit r h = shallow plus upward 62 (lit< tt) (shown 2 0b10 bias) (shown 2 0b10 (bias - 100)) tt tt refl refl (number false bias (2 ^ 61 + 1) Ordering.gt) refl exit r h
+thirteen_nearer exit r h = shallow plus Upward 62 (lit< tt) (shown 2 0b10 bias) (shown 2 0b10 (bias - 100)) tt tt refl refl (number false bias (2 ^ 61 + 1) Ordering.gt) refl exit r h
 
 -- ---- a zero re-rounded, and a refused call
 
@@ -97,7 +99,7 @@ unfolding single_refusal first_refusal accepted mode_holds precision_holds lengt
 zero_rerounded exit r h =
     let t = h.reported refl in
     let x = operand_of (given true Zero 2 (pos 0)) (5 ∷ []) in
-    (t.answer ∙ ap (λ (k : ℕ). sum_of (result plus upward 65 x (zero_like x)) 65 k (limbs_used (top_exponent x (zero_like x)) k x) (limbs_used (top_exponent x (zero_like x)) k (zero_like x))) (t.depth.zeros refl), t.target)
+    (t.answer ∙ ap (λ (k : ℕ). sum_of (result plus Upward 65 x (zero_like x)) 65 k (limbs_used (top_exponent x (zero_like x)) k x) (limbs_used (top_exponent x (zero_like x)) k (zero_like x))) (t.depth.zeros refl), t.target)
 
 -- mode 4, whatever the operands: 1 at place 0, +0 of precision 2, depth and counts 0, and the target as it was
 pub mode_refused : (exit : List ℕ) (r : Sum) → Summed plus 4 (given true Regular 1 (pos 0)) [] (given true Regular 1 (pos 0)) [] 1 (7 ∷ 7 ∷ []) exit r

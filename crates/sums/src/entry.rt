@@ -1,7 +1,7 @@
 // Add, subtract, re-round.
 ghost use Rattle.std.specs.Prelude.{◌≡◌, true, false, ℕ, ◌≤◌, ◌<◌, List, length};
 ghost use Rattle.numbers.specs.Operand.{Operand, WellFormed};
-ghost use Rattle.rounding.specs.Mode.{Mode, mode_of};
+ghost use Rattle.rounding.specs.declared.Mode.{Mode};
 ghost use Rattle.rounding.specs.Answer.{Answer};
 ghost use Rattle.depth.specs.Depth.{plus, minus};
 ghost use Rattle.checks.specs.Number.{is_zero_kind, operand_of};
@@ -17,21 +17,30 @@ ghost use Rattle.narrow.specs.Looked.{Looked};
 use checks::{Number, copied};
 use narrow::Sight;
 use reports::Sum;
+use rounding::Mode;
 use wide::Attempt;
 
 // Two zeros: nothing is read.
-fn zeros(mode: u8, x: Number, y: Number, p: u64, target: &mut [u64]) -> Sum
+fn zeros(mode: Mode, x: Number, y: Number, p: u64, target: &mut [u64]) -> Sum
     requires { Room p (length target.old) }
-    ensures { (xl yl : List ℕ) → (operand_of x xl).is_zero ≡ true → (operand_of y yl).is_zero ≡ true → Reported plus (mode_of mode) p (operand_of x xl) (operand_of y yl) target.new result }
+    ensures { (xl yl : List ℕ) → (operand_of x xl).is_zero ≡ true → (operand_of y yl).is_zero ≡ true → Reported plus mode p (operand_of x xl) (operand_of y yl) target.new result }
 {
     parts::clear(target);
     reports::zero(reports::zero_sign(mode, x.negative, y.negative), p, 0, 0, 0)
 }
 
 // Where checks 1 to 5 pass.
-fn summed(mode: u8, x: Number, xl: &[u64], y: Number, yl: &[u64], p: u64, target: &mut [u64]) -> Sum
-    requires { (mode ≤ 3) × WellFormed (operand_of x xl.now) × WellFormed (operand_of y yl.now) × Room p (length target.old) }
-    ensures { Reported plus (mode_of mode) p (operand_of x xl.now) (operand_of y yl.now) target.new result }
+fn summed(
+    mode: Mode,
+    x: Number,
+    xl: &[u64],
+    y: Number,
+    yl: &[u64],
+    p: u64,
+    target: &mut [u64],
+) -> Sum
+    requires { WellFormed (operand_of x xl.now) × WellFormed (operand_of y yl.now) × Room p (length target.old) }
+    ensures { Reported plus mode p (operand_of x xl.now) (operand_of y yl.now) target.new result }
 {
     if checks::is_zero(x) {
         if checks::is_zero(y) {
@@ -99,17 +108,20 @@ fn add_sized<'a>(
     if refusal.rule != 0 {
         return reports::refused(refusal, 0, 0, 0);
     }
+    let Ok(known) = Mode::try_from(mode) else {
+        return reports::refused(refusal, 0, 0, 0);
+    };
     if (x.negative == y.negative) != like {
         if is_narrow(p, x, y) {
-            let sight = narrow::look(mode, x, xl, y, yl, p);
+            let sight = narrow::look(known, x, xl, y, yl, p);
             if !sight.seen.open {
                 return told(sight, p, target);
             }
         }
     }
-    let attempt = ways::attempt(mode, x, xl, y, yl, p, target);
+    let attempt = ways::attempt(known, x, xl, y, yl, p, target);
     if attempt.open {
-        return reports::retold(summed(mode, copied(x), &xl[..], copied(y), &yl[..], p, target));
+        return reports::retold(summed(known, copied(x), &xl[..], copied(y), &yl[..], p, target));
     }
     reported(attempt, p)
 }
@@ -152,9 +164,11 @@ pub fn add<'a>(
 {
     let n = target.len();
     if is_plain(mode, x, xl, y, yl, p, n) & (x.negative == y.negative) {
-        let sight = narrow::look_like(mode, x, xl, y, yl, p);
-        if !sight.seen.open {
-            return told(sight, p, target);
+        if let Ok(known) = Mode::try_from(mode) {
+            let sight = narrow::look_like(known, x, xl, y, yl, p);
+            if !sight.seen.open {
+                return told(sight, p, target);
+            }
         }
     }
     if !admission::sizes_pass(x.precision, xl.len(), y.precision, yl.len(), p, n) {
@@ -187,9 +201,11 @@ pub fn subtract<'a>(
     let turned = checks::turn_sign(y);
     let n = target.len();
     if is_plain(mode, x, xl, turned, yl, p, n) & (x.negative != turned.negative) {
-        let sight = narrow::look_unlike(mode, x, xl, turned, yl, p);
-        if !sight.seen.open {
-            return told(sight, p, target);
+        if let Ok(known) = Mode::try_from(mode) {
+            let sight = narrow::look_unlike(known, x, xl, turned, yl, p);
+            if !sight.seen.open {
+                return told(sight, p, target);
+            }
         }
     }
     if !admission::sizes_pass(x.precision, xl.len(), turned.precision, yl.len(), p, n) {
@@ -215,15 +231,18 @@ pub fn reround(mode: u8, x: Number, xl: &[u64], p: u64, target: &mut [u64]) -> S
     if refusal.rule != 0 {
         return reports::refused(refusal, 0, 0, 0);
     }
+    let Ok(known) = Mode::try_from(mode) else {
+        return reports::refused(refusal, 0, 0, 0);
+    };
     if is_narrow(p, x, x) {
-        let sight = narrow::look_alone(mode, x, xl, p);
+        let sight = narrow::look_alone(known, x, xl, p);
         if !sight.seen.open {
             return told(sight, p, target);
         }
     }
     let alike = copied(x);
     if checks::is_zero(alike) {
-        return zeros(mode, alike, alike, p, target);
+        return zeros(known, alike, alike, p, target);
     }
-    general::single(mode, alike, xl, p, target)
+    general::single(known, alike, xl, p, target)
 }

@@ -13,7 +13,7 @@ use lib.Dec.{leb, ltb, eqb}
 use lib.ListN.{length, get_or}
 use Rattle.numbers.specs.Limits.{counted}
 use Rattle.numbers.specs.Operand.{Operand, WellFormed}
-use Rattle.rounding.specs.Mode.{Mode}
+use Rattle.rounding.specs.declared.Mode.{Mode}
 use Rattle.limb.proofs.Tests.{both_true}
 use Rattle.checks.specs.declared.Number.{Number}
 use Rattle.checks.specs.Number.{is_zero_kind, operand_of}

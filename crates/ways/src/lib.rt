@@ -3,7 +3,6 @@
 
 ghost use Rattle.std.specs.Prelude.{◌≡◌, true, false, not, cond, ◌+◌, ◌*◌, ◌^◌, ◌≤◌, ◌<◌, length};
 ghost use Rattle.numbers.specs.Operand.{Operand, WellFormed};
-ghost use Rattle.rounding.specs.Mode.{mode_of};
 ghost use Rattle.checks.specs.Number.{operand_of};
 ghost use Rattle.checks.specs.Room.{Room};
 ghost use Rattle.wide.specs.Filling.{Holding, Offered, FillsBy};
@@ -12,6 +11,7 @@ ghost use Rattle.deep.specs.Deep.{Deep};
 
 use checks::Number;
 use choice::{either, either_run, either_sign, is_level, is_second_larger};
+use rounding::Mode;
 use settle::Pair;
 use wide::{Attempt, Filled, nothing};
 
@@ -76,7 +76,7 @@ fn is_deep(p: u64, pair: Pair) -> bool
 
 // Fills the target, in the way that may fix the answer.
 fn fill(
-    mode: u8,
+    mode: Mode,
     negative: bool,
     p: u64,
     pair: Pair,
@@ -85,7 +85,7 @@ fn fill(
     target: &mut [u64],
 ) -> Filled
     requires { Room p (length target.old) × Offered pair first.now second.now }
-    ensures { (length target.new ≡ length target.old) × FillsBy (mode_of mode) negative p pair first.now second.now target.new result }
+    ensures { (length target.new ≡ length target.old) × FillsBy mode negative p pair first.now second.now target.new result }
 {
     if is_deep(p, pair) {
         let filled = deep::fill(mode, negative, p, pair, first, second, target);
@@ -98,7 +98,7 @@ fn fill(
 
 // Rounds what fills the target.
 fn round_filled(
-    mode: u8,
+    mode: Mode,
     negative: bool,
     p: u64,
     pair: Pair,
@@ -108,7 +108,7 @@ fn round_filled(
     target: &mut [u64],
 ) -> Attempt
     requires { Room p (length target.old) × Offered pair first.now second.now }
-    ensures { (length target.new ≡ length target.old) × (result.open ≡ false → (z w : Operand) → Holding z w pair first.now second.now → negative ≡ z.negative → Attempted (mode_of mode) p z w target.new result.negative result.placed result.depth (cond swapped result.second result.first) (cond swapped result.first result.second)) }
+    ensures { (length target.new ≡ length target.old) × (result.open ≡ false → (z w : Operand) → Holding z w pair first.now second.now → negative ≡ z.negative → Attempted mode p z w target.new result.negative result.placed result.depth (cond swapped result.second result.first) (cond swapped result.first result.second)) }
 {
     let filled = fill(mode, negative, p, pair, first, second, target);
     if filled.open {
@@ -139,7 +139,7 @@ fn round_filled(
 
 // Reads two operands in order, in the shortest of the ways that fit them.
 fn read_in_order(
-    mode: u8,
+    mode: Mode,
     negative: bool,
     p: u64,
     pair: Pair,
@@ -149,7 +149,7 @@ fn read_in_order(
     target: &mut [u64],
 ) -> Attempt
     requires { Room p (length target.old) × Offered pair first.now second.now }
-    ensures { (length target.new ≡ length target.old) × (result.open ≡ false → (z w : Operand) → Holding z w pair first.now second.now → negative ≡ z.negative → Attempted (mode_of mode) p z w target.new result.negative result.placed result.depth (cond swapped result.second result.first) (cond swapped result.first result.second)) }
+    ensures { (length target.new ≡ length target.old) × (result.open ≡ false → (z w : Operand) → Holding z w pair first.now second.now → negative ≡ z.negative → Attempted mode p z w target.new result.negative result.placed result.depth (cond swapped result.second result.first) (cond swapped result.first result.second)) }
 {
     if is_near(pair, first.len(), second.len(), target.len()) {
         return exchanged_if(
@@ -168,7 +168,7 @@ fn read_in_order(
 
 // The same in the order of the caller.
 fn read_as_said<'a>(
-    mode: u8,
+    mode: Mode,
     negative: bool,
     p: u64,
     pair: Pair,
@@ -178,7 +178,7 @@ fn read_as_said<'a>(
     target: &mut [u64],
 ) -> Attempt
     requires { Room p (length target.old) × Offered pair (cond swapped yl.now xl.now) (cond swapped xl.now yl.now) }
-    ensures { (length target.new ≡ length target.old) × (result.open ≡ false → (z w : Operand) → Holding z w pair (cond swapped yl.now xl.now) (cond swapped xl.now yl.now) → negative ≡ z.negative → Attempted (mode_of mode) p z w target.new result.negative result.placed result.depth (cond swapped result.second result.first) (cond swapped result.first result.second)) }
+    ensures { (length target.new ≡ length target.old) × (result.open ≡ false → (z w : Operand) → Holding z w pair (cond swapped yl.now xl.now) (cond swapped xl.now yl.now) → negative ≡ z.negative → Attempted mode p z w target.new result.negative result.placed result.depth (cond swapped result.second result.first) (cond swapped result.first result.second)) }
 {
     let first = either_run(swapped, xl, yl);
     let second = either_run(swapped, yl, xl);
@@ -187,7 +187,7 @@ fn read_as_said<'a>(
 
 // Adds two regular numbers, where the columns that fill the target, or one more, fix the answer. Where their top limbs do not tell which is larger it is left open, but for two limbs each and a target of one.
 fn add_regular<'a>(
-    mode: u8,
+    mode: Mode,
     x: Number,
     xl: &'a [u64],
     y: Number,
@@ -196,7 +196,7 @@ fn add_regular<'a>(
     target: &mut [u64],
 ) -> Attempt
     requires { WellFormed (operand_of x xl.now) × ((operand_of x xl.now).is_zero ≡ false) × WellFormed (operand_of y yl.now) × ((operand_of y yl.now).is_zero ≡ false) × Room p (length target.old) }
-    ensures { (length target.new ≡ length target.old) × (result.open ≡ false → Attempted (mode_of mode) p (operand_of x xl.now) (operand_of y yl.now) target.new result.negative result.placed result.depth result.first result.second) }
+    ensures { (length target.new ≡ length target.old) × (result.open ≡ false → Attempted mode p (operand_of x xl.now) (operand_of y yl.now) target.new result.negative result.placed result.depth result.first result.second) }
 {
     let u = xl[xl.len() - 1];
     let v = yl[yl.len() - 1];
@@ -224,7 +224,7 @@ fn add_regular<'a>(
 
 // Adds two numbers, where the columns that fill the target, or one more, fix the answer. Where one is zero it is left open.
 pub fn attempt<'a>(
-    mode: u8,
+    mode: Mode,
     x: Number,
     xl: &'a [u64],
     y: Number,
@@ -233,7 +233,7 @@ pub fn attempt<'a>(
     target: &mut [u64],
 ) -> Attempt
     requires { WellFormed (operand_of x xl.now) × WellFormed (operand_of y yl.now) × Room p (length target.old) }
-    ensures { (length target.new ≡ length target.old) × (result.open ≡ false → Attempted (mode_of mode) p (operand_of x xl.now) (operand_of y yl.now) target.new result.negative result.placed result.depth result.first result.second) }
+    ensures { (length target.new ≡ length target.old) × (result.open ≡ false → Attempted mode p (operand_of x xl.now) (operand_of y yl.now) target.new result.negative result.placed result.depth result.first result.second) }
 {
     if checks::is_zero(x) {
         return nothing();

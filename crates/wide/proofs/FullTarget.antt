@@ -13,8 +13,10 @@ use Rattle.limb.specs.Carry.{bit}
 use Rattle.numbers.specs.Limits.{most_precision, limbs_for}
 use Rattle.numbers.specs.Operand.{Operand}
 use Rattle.numbers.proofs.Digits.{precision_two}
-use Rattle.rounding.specs.Mode.{Mode, nearest, Way, near, under, over, way}
+use Rattle.rounding.specs.Mode.{Way, near, under, over, way}
+use Rattle.rounding.specs.declared.Mode.{Mode}
 use Rattle.rounding.specs.Answer.{rounded}
+use Rattle.rounding.specs.declared.Mode.TheVariants.{Nearest}
 use Rattle.decide.proofs.Settled.{enough_true}
 use Rattle.place.specs.Placed.{run_number}
 use Rattle.remnant.specs.Digits.{ShowsDigits}
@@ -65,8 +67,8 @@ module _ (p : ℕ) (pair : Pair) (first second : List ℕ) (offered : Offered pa
   abbrev h : Holding offered.larger offered.other pair first second
   h = offered.holding
 
-  begun : Begun (toward (way nearest offered.larger.negative)) pair first second 0
-  begun = record { mode = nearest; larger = offered.larger; other = offered.other; held = held nearest offered.larger offered.other pair first second h; course = h.course }
+  begun : Begun (toward (way Nearest offered.larger.negative)) pair first second 0
+  begun = record { mode = Nearest; larger = offered.larger; other = offered.other; held = held Nearest offered.larger offered.other pair first second h; course = h.course }
 
   pub offered_sighted : (target : List ℕ) → Room p (length target) → Sighted pair (length first) 0 (length target)
   offered_sighted target room = sighted p _ pair first second 0 target room begun

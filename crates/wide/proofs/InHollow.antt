@@ -15,7 +15,8 @@ use Rattle.limb.specs.Carry.{bit}
 use Rattle.limb.proofs.Value.{value_lt, value_take_lt, base_pow}
 use Rattle.numbers.specs.Limits.{most_precision, limbs_for}
 use Rattle.numbers.specs.Operand.{Operand}
-use Rattle.rounding.specs.Mode.{Mode, Way, way}
+use Rattle.rounding.specs.Mode.{Way, way}
+use Rattle.rounding.specs.declared.Mode.{Mode}
 use Rattle.rounding.specs.Answer.{rounded}
 use Rattle.rounding.specs.Sum.{add}
 use Rattle.depth.specs.Bound.{deepest}

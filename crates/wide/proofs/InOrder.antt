@@ -13,7 +13,7 @@ use Rattle.depth.proofs.Exchange.{top_exchange, deciding_exchange}
 use Rattle.limb.proofs.Tests.{both_true}
 use Rattle.numbers.specs.Limits.{counted, least_precision, most_precision, most_exponent, limbs_for}
 use Rattle.numbers.specs.Operand.{Operand, WellFormed}
-use Rattle.rounding.specs.Mode.{Mode, mode_of}
+use Rattle.rounding.specs.declared.Mode.{Mode}
 use Rattle.rounding.specs.Answer.{Answer, rounded}
 use Rattle.rounding.specs.Sum.{add}
 use Rattle.rounding.proofs.Order.{le_or_lt}
@@ -235,9 +235,9 @@ module _ (p : ℕ) (pair : Pair) (first second t : List ℕ) (room : Room p (len
       digit true e = refl
       digit false e = lt-ltb 0 (get_or t (length t - 1) 0) (led e)
 
-  module _ (mode : ℕ) (f : Filled) (rounds : Rounds (mode_of mode) p z w t f.carry f.guard f.more f.depth) (negative : Bool) (sign : negative ≡ z.negative) where
+  module _ (mode : Mode) (f : Filled) (rounds : Rounds mode p z w t f.carry f.guard f.more f.depth) (negative : Bool) (sign : negative ≡ z.negative) where
     abbrev o : Mode
-    o = mode_of mode
+    o = mode
 
     fits : run_rule p f.carry t unit ≡ 0
     fits = fit f.carry rounds.led

@@ -9,7 +9,8 @@ use lib.Ieee.{size}
 use Rattle.limb.specs.Carry.{bit}
 use Rattle.numbers.specs.Operand.{Operand}
 use Rattle.numbers.proofs.Digits.{precision_two}
-use Rattle.rounding.specs.Mode.{Mode, Way, near, under, over, way}
+use Rattle.rounding.specs.Mode.{Way, near, under, over, way}
+use Rattle.rounding.specs.declared.Mode.{Mode}
 use Rattle.rounding.proofs.Order.{size_mono}
 use Rattle.decide.specs.Class.{off, lean, enough, settled}
 use Rattle.decide.specs.Decide.{decide_at}

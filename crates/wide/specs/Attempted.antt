@@ -1,7 +1,7 @@
 -- What is told of a sum that is read at once: its depth, its answer, and the limbs used. Definitions only.
 use Rattle.std.specs.Prelude.{ℕ, ◌-◌, ◌≤◌, ◌≡◌, Bool, List}
 use Rattle.numbers.specs.Operand.{Operand}
-use Rattle.rounding.specs.Mode.{Mode}
+use Rattle.rounding.specs.declared.Mode.{Mode}
 use Rattle.rounding.specs.Sum.{add}
 use Rattle.depth.specs.Bound.{deepest}
 use Rattle.depth.specs.Columns.{top_exponent, limbs_used}

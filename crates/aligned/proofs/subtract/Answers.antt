@@ -9,7 +9,6 @@ use borrow.Author.Tests.{leb-true}
 use Rattle.limb.specs.Value.{value_of}
 use Rattle.limb.proofs.Tests.{both_true}
 use Rattle.numbers.specs.Operand.{Operand}
-use Rattle.rounding.specs.Mode.{mode_of}
 use Rattle.checks.specs.Number.{operand_of}
 use Rattle.descent.proofs.GoingDown.{room_some}
 use Rattle.aligned.specs.Aligned.{Standing}
@@ -75,7 +74,7 @@ returns-then-x-p c =
     let stands : Standing c.args.p (cond swapped second first) (cond swapped first second) difference false skipped c.args.top = difference_stands c.args.p c.args.x c.args.xl.now c.args.y c.args.yl.now c.args.target.now c.args.top c.requires.0 c.requires.1 _ c.alike-z.ensures c.if-z-n.false c.requires.2 _ c.is_second_larger-swapped.ensures
     c.requires.3 (sym c.is_low.ensures ∙ c.if-is_low.false) c.subtract_in_order.ensures c.if-target-n-eq0.false in
     let signed : not (beq c.args.x.negative swapped) ≡ (cond swapped second first).negative = sign_kept c.args.p c.args.x c.args.xl.now c.args.y c.args.yl.now c.args.target.now c.args.top c.requires.0 c.requires.1 c.requires.2 swapped in
-    let told = difference_told c.args.p c.args.x c.args.xl.now c.args.y c.args.yl.now c.args.target.now c.args.top c.requires.0 c.requires.1 swapped (mode_of c.args.mode) in
+    let told = difference_told c.args.p c.args.x c.args.xl.now c.args.y c.args.yl.now c.args.target.now c.args.top c.requires.0 c.requires.1 swapped c.args.mode in
     let r = c.settle_whole in
     (c.settle_whole.auto.target ∙ c.subtract_in_order.auto.target, λ e. told _ _ _ r.ensures.1 (r.ensures.2 c.args.mode _ _ stands signed))
 
@@ -100,6 +99,6 @@ returns c =
     let stands : Standing c.args.p (cond swapped second first) (cond swapped first second) difference false skipped c.args.top = difference_stands c.args.p c.args.x c.args.xl.now c.args.y c.args.yl.now c.args.target.now c.args.top c.requires.0 c.requires.1 _ c.alike-z.ensures c.if-z-n.false c.requires.2 _ c.is_second_larger-swapped.ensures
     c.requires.3 (sym c.is_low.ensures ∙ c.if-is_low.false) c.subtract_in_order.ensures c.if-target-n-eq0.false in
     let signed : not (beq c.args.x.negative swapped) ≡ (cond swapped second first).negative = sign_kept c.args.p c.args.x c.args.xl.now c.args.y c.args.yl.now c.args.target.now c.args.top c.requires.0 c.requires.1 c.requires.2 swapped in
-    let told = difference_told c.args.p c.args.x c.args.xl.now c.args.y c.args.yl.now c.args.target.now c.args.top c.requires.0 c.requires.1 swapped (mode_of c.args.mode) in
+    let told = difference_told c.args.p c.args.x c.args.xl.now c.args.y c.args.yl.now c.args.target.now c.args.top c.requires.0 c.requires.1 swapped c.args.mode in
     let r = c.round_whole in
     (c.round_whole.auto.target ∙ c.subtract_in_order.auto.target, λ e. told _ _ _ r.ensures.1 (r.ensures.2 _ _ stands signed))

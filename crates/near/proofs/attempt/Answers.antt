@@ -2,7 +2,6 @@
 use mathlib.Core.Path.{sym, ◌∙◌}
 use mathlib.Core.Bool.{true≢false}
 use native.Mathlib.Omega.{arith}
-use Rattle.rounding.specs.Mode.{mode_of}
 use Rattle.descent.proofs.GoingDown.{room_kept, room_some}
 use Rattle.wide.proofs.InOrder.{limbs_weigh, unit_room, fit, in_order_told}
 use Rattle.near.proofs.Alongside.{all_used}
@@ -18,7 +17,7 @@ pub overflow_sub-pair : goal.overflow_sub-pair
 overflow_sub-pair c = let f = c.fill-filled.ensures in unit_room c.args.p _ (room_kept _ _ _ f.0 c.requires.0) _ _ _ _ _ c.requires.1.holding
 
 pub round_fit-placed-requires : goal.round_fit-placed-requires
-round_fit-placed-requires c = let f = c.fill-filled.ensures in fit c.args.p _ _ _ _ (room_kept _ _ _ f.0 c.requires.0) _ _ c.requires.1.holding _ (f.1 c.if-filled.false (mode_of c.args.mode) _ _ c.requires.1.holding).led
+round_fit-placed-requires c = let f = c.fill-filled.ensures in fit c.args.p _ _ _ _ (room_kept _ _ _ f.0 c.requires.0) _ _ c.requires.1.holding _ (f.1 c.if-filled.false c.args.mode _ _ c.requires.1.holding).led
 
 pub returns : goal.returns
 returns c =

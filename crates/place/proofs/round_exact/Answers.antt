@@ -1,5 +1,6 @@
 -- `place::round_exact` is right since nothing lies below the digits kept: truncation drops nothing, and no mode adds a unit. Assumes nothing.
 use mathlib.Core.Path.{refl}
+use Rattle.rounding.specs.declared.Mode.{Mode}
 use Prim.Native.Nat.{ℕ, ◌-◌, ◌*◌}
 use mathlib.Core.Bool.{Bool}
 use native.Mathlib.Omega.{arith}
@@ -35,6 +36,6 @@ returns c =
     let both = exact g.precision g.unit g.target.now c.reach-offset.result (64 * length g.target.now - g.precision) c.requires.0 refl c.reach-offset.ensures c.requires.1
     c.truncate.new.target _ _ _ c.truncate.ensures (λ i. (c.slice_known-2-1.given i).fits) refl c.settle.ensures in
     record {
-      by_index = λ (mode : ℕ) (negative : Bool). (both mode negative).0;
-      by_index_2 = λ (mode : ℕ) (negative : Bool). (both mode negative).1;
+      by_index = λ (mode : Mode) (negative : Bool). (both mode negative).0;
+      by_index_2 = λ (mode : Mode) (negative : Bool). (both mode negative).1;
     }

@@ -1,6 +1,5 @@
 -- `ways::fill` is right since either way is: what the first leaves open, in a target as long, the other fills. Assumes nothing.
 use mathlib.Core.Path.{◌∙◌}
-use Rattle.rounding.specs.Mode.{mode_of}
 use Rattle.descent.proofs.GoingDown.{room_kept}
 use Rattle.wide.proofs.InOrder.{fills_by}
 use Rattle.ways.proofs.Chosen.{deep_asked}
@@ -23,4 +22,4 @@ shape_of-target c = c.fill.ensures.0 ∙ c.if-is_deep.auto.target
 pub returns : goal.returns
 returns c =
     let f = c.fill in
-    (f.ensures.0 ∙ c.if-is_deep.auto.target, fills_by (mode_of c.args.mode) c.args.negative c.args.p _ _ _ _ _ f.ensures.1 c.requires.1)
+    (f.ensures.0 ∙ c.if-is_deep.auto.target, fills_by c.args.mode c.args.negative c.args.p _ _ _ _ _ f.ensures.1 c.requires.1)

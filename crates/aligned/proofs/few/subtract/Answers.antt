@@ -2,7 +2,6 @@
 use mathlib.Core.Path.{refl, sym, ◌∙◌}
 use mathlib.Core.Bool.{true≢false}
 use native.Mathlib.Omega.{arith}
-use Rattle.rounding.specs.Mode.{mode_of}
 use Rattle.aligned.proofs.AsFound.{top_modest, sign_is}
 use Rattle.aligned.proofs.FewFound.{difference_some, lengths_told, few_cancels, columns_two, few_told}
 use borrow.Author.Rules.{rules}
@@ -37,4 +36,4 @@ returns c =
     let some = difference_some d.result.high d.result.low c.if-d.false in
     let r = c.normalize-r in
     let w = c.write in
-    (w.ensures.0, λ e. few_told c.args.x c.args.xl.now c.args.y c.args.yl.now c.args.target.now c.args.top c.requires.1 c.requires.2 c.requires.3 d.result d.ensures some calm c.requires.0 r.result r.ensures (search rules) (search rules) _ w.ensures.0 (λ i. (c.type_inv.target i).fits) w.ensures.1 (mode_of c.args.mode))
+    (w.ensures.0, λ e. few_told c.args.x c.args.xl.now c.args.y c.args.yl.now c.args.target.now c.args.top c.requires.1 c.requires.2 c.requires.3 d.result d.ensures some calm c.requires.0 r.result r.ensures (search rules) (search rules) _ w.ensures.0 (λ i. (c.type_inv.target i).fits) w.ensures.1 c.args.mode)

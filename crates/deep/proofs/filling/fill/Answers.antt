@@ -5,7 +5,6 @@ use Prim.Native.Nat.{ℕ, ◌+◌, ◌-◌, ◌*◌, ◌≤◌, ◌<◌}
 use native.Mathlib.Omega.{arith}
 use lib.ListN.{length}
 use borrow.Author.Tests.{not-false}
-use Rattle.rounding.specs.Mode.{mode_of}
 use Rattle.remnant.specs.Rest.{RestAt}
 use Rattle.settle.specs.Rows.{Modest}
 use Rattle.descent.proofs.JudgingRange.{digits_some}
@@ -72,7 +71,7 @@ filled-requires c =
 pub returns-then-is_settled : goal.returns-then-is_settled
 returns-then-is_settled c =
     let one : length c.args.target.now ≡ 1 = one_limb c.args.p _ c.requires.0 c.requires.2 in
-    let tested : Tested (mode_of c.args.mode) c.args.negative c.args.p c.args.pair c.args.first.now c.args.second.now c.inner_of-stop.result c.begin-begun.result c.is_settled.result = record {
+    let tested : Tested c.args.mode c.args.negative c.args.p c.args.pair c.args.first.now c.args.second.now c.inner_of-stop.result c.begin-begun.result c.is_settled.result = record {
       positive = digits_some c.args.p _ c.requires.0;
       inner = c.inner_of-stop.ensures;
       inland = c.is_inland.ensures (c.if-not-is_inland.false);
@@ -98,7 +97,7 @@ filled-requires-2 c =
 pub returns : goal.returns
 returns c =
     let one : length c.args.target.now ≡ 1 = one_limb c.args.p _ c.requires.0 c.requires.2 in
-    let tested : Tested (mode_of c.args.mode) c.args.negative c.args.p c.args.pair c.args.first.now c.args.second.now c.inner_of-stop.result c.begin-begun.result c.is_settled.result = record {
+    let tested : Tested c.args.mode c.args.negative c.args.p c.args.pair c.args.first.now c.args.second.now c.inner_of-stop.result c.begin-begun.result c.is_settled.result = record {
       positive = digits_some c.args.p _ c.requires.0;
       inner = c.inner_of-stop.ensures;
       inland = c.is_inland.ensures (c.if-not-is_inland.false);

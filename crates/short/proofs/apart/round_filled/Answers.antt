@@ -2,7 +2,6 @@
 use mathlib.Core.Path.{refl, ◌∙◌}
 use mathlib.Core.List.{[], ◌∷◌}
 use native.Mathlib.Omega.{arith}
-use Rattle.rounding.specs.Mode.{mode_of}
 use Rattle.descent.proofs.GoingDown.{room_kept}
 use Rattle.wide.proofs.InOrder.{limbs_weigh, unit_room, fit, in_order_told}
 use Rattle.short.proofs.apart.round_filled.Goals as goal
@@ -17,7 +16,7 @@ overflow_sub-pair c =
 pub round_fit-requires : goal.round_fit-requires
 round_fit-requires c =
     let f = c.fill-filled in
-    fit c.args.p _ (c.args.u ∷ []) (c.requires.2.0 ∷ []) _ (room_kept _ _ _ c.fill-filled.auto.target c.requires.0) _ _ c.requires.2.1.holding _ (f.ensures.3 c.requires.2.0 f.ensures.1 (mode_of c.args.mode) _ _ c.requires.2.1.holding).led
+    fit c.args.p _ (c.args.u ∷ []) (c.requires.2.0 ∷ []) _ (room_kept _ _ _ c.fill-filled.auto.target c.requires.0) _ _ c.requires.2.1.holding _ (f.ensures.3 c.requires.2.0 f.ensures.1 c.args.mode _ _ c.requires.2.1.holding).led
 
 pub returns : goal.returns
 returns c =
