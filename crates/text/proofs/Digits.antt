@@ -1,5 +1,6 @@
 -- A digit's value and its byte undo each other; what each range of bytes is worth. Assumes nothing.
-use Rattle.std.proofs.Common.{◌≡◌, ℕ, zero, suc, ◌+◌, ◌-◌, ◌<◌, ◌≤◌, Bool, true, false, ◌&&◌, ltb, List, [], ◌∷◌, ◌++◌, length, get_or, take, drop, sym, refl, ◌∙◌, lt_of_not-le, add-one, arith, drop_of_length-le, drop-cons, ltb-true, le-ltb, lt-ltb, le-leb}
+use Rattle.std.proofs.Common.{◌≡◌, ℕ, zero, suc, ◌+◌, ◌-◌, ◌<◌, ◌≤◌, Bool, true, false, ◌&&◌, ltb, List, [], ◌∷◌, ◌++◌, length, get_or, take, drop, ap, sym, refl, ◌∙◌, lt_of_not-le, add-one, arith, drop_of_length-le, drop-cons, ltb-true, le-ltb, lt-ltb, le-leb}
+use Rattle.std.specs.List.{list_all}
 use mathlib.Core.Bool.{false≢true}
 use native.Mathlib.Decide.{dec_le}
 use borrow.Author.Tests.{lt-leb}
@@ -107,15 +108,8 @@ digits_drop zero l h = h
 digits_drop (suc n) [] h = h
 digits_drop (suc n) (b ∷ l) h = digits_drop n l (rest_digits b l h)
 
--- digits are passed one by one: what is left decides, up to the first byte that is none, or the end
-module _ (s : List ℕ) (i : ℕ) where
-  pub passed : i < length s → digit_of (get_or s i 0) ≤ 15 → all_digits (drop i s) ≡ all_digits s → all_digits (drop (i + 1) s) ≡ all_digits s
-  unfolding all_digits
-  passed h d e = rw (add-one i) (simp (drop-cons s i 0 h, lt-ltb (digit_of (get_or s i 0)) 16 (omega arith)) at e)
-
-  pub stopped : i < length s → 15 < digit_of (get_or s i 0) → all_digits (drop i s) ≡ all_digits s → false ≡ all_digits s
-  unfolding all_digits
-  stopped h d e = simp (drop-cons s i 0 h, le-ltb (digit_of (get_or s i 0)) 16 (omega arith)) at e
-
-  pub ended : length s ≤ i → all_digits (drop i s) ≡ all_digits s → true ≡ all_digits s
-  ended h e = sym digits_nil ∙ (rw (drop_of_length-le s h) at e)
+-- a test of every byte
+pub every_byte : (l : List ℕ) → all_digits l ≡ list_all (λ b. ltb (digit_of b) 16) l
+unfolding all_digits
+every_byte [] = refl
+every_byte (b ∷ l) = ap (λ (t : Bool). ltb (digit_of b) 16 && t) (every_byte l)

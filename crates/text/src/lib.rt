@@ -9,8 +9,8 @@ pub fn digit(b: u8) -> u8
     ensures { result ≡ digit_of b }
 {
     match b {
-        48..=57 => b - 48,
-        97..=102 => b - 87,
+        b'0'..=b'9' => b - b'0',
+        b'a'..=b'f' => b - b'a' + 10,
         _ => 16,
     }
 }
@@ -19,25 +19,17 @@ pub fn digit(b: u8) -> u8
 pub fn glyph(value: u64) -> u8
     ensures { result ≡ glyph_of (value % 16) }
 {
-    let low = value % 16;
-    if low < 10 {
-        return (low + 48) as u8;
+    match (value % 16) as u8 {
+        d @ 0..=9 => b'0' + d,
+        d => b'a' + (d - 10),
     }
-    (low + 87) as u8
 }
 
 // Whether every byte is a digit.
 pub fn all_digits(s: &[u8]) -> bool
     ensures { result ≡ all_digits s.now }
 {
-    let mut i = 0;
-    while i < s.len() {
-        if 15 < digit(s[i]) {
-            return false;
-        }
-        i += 1;
-    }
-    true
+    s.iter().all(|b| digit(*b) < 16)
 }
 
 // The whole number of the digits; what passes 64 bits is dropped.
@@ -45,10 +37,8 @@ pub fn read_digits(s: &[u8]) -> u64
     ensures { result ≡ worth s.now % 2 ^ 64 }
 {
     let mut value: u64 = 0;
-    let mut i = 0;
-    while i < s.len() {
-        value = std::num::wrapping_add_u64(value << 4, digit(s[i]) as u64);
-        i += 1;
+    for b in s {
+        value = (value << 4).wrapping_add(digit(*b) as u64);
     }
     value
 }
@@ -58,10 +48,8 @@ pub fn write_digits(room: &mut [u8], value: u64)
     ensures { room.new ≡ numeral (length room.old) value }
 {
     let mut rest = value;
-    let mut i = room.len();
-    while 0 < i {
-        i -= 1;
+    for i in (0..room.len()).rev() {
         room[i] = glyph(rest);
-        rest = rest / 16;
+        rest /= 16;
     }
 }

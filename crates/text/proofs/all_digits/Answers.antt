@@ -1,13 +1,11 @@
--- `text::all_digits`: what is left decides, as long as digits were passed. Assumes nothing.
-use Rattle.std.proofs.Common.{◌-◌, arith, rules}
-use Rattle.text.proofs.Digits.{passed, stopped, ended}
+-- `text::all_digits`: the test of every byte is that of the definition. Assumes nothing.
+use Rattle.std.proofs.Common.{sym, ◌∙◌, nat_lt, rules, tests}
+use Rattle.std.proofs.lemmas.Iterator.{YieldsList-from_slice}
+use Rattle.std.proofs.lemmas.Iterator.Search.{all_from_yields_List}
+use Rattle.text.specs.Digits.{digit_of}
+use Rattle.text.proofs.Digits.{every_byte}
 use Rattle.text.proofs.all_digits.Goals as goal
 
-pub returns-then-digit-gt15 : goal.returns-then-digit-gt15
-returns-then-digit-gt15 c = stopped c.args.s.now c.loop-i.i (omega arith) (omega arith) c.loop-i.invariant.1
-
-pub loop-i-preserved : goal.loop-i-preserved
-loop-i-preserved c = (search rules, passed c.args.s.now c.loop-i.i (omega arith) (omega arith) c.loop-i.invariant.1)
-
 pub returns : goal.returns
-returns c = ended c.args.s.now c.loop-i.i (omega arith) c.loop-i.invariant.1
+returns c =
+    all_from_yields_List (λ b. nat_lt (digit_of b) 16) _ _ c.all.result c.all.ensures.ran (YieldsList-from_slice c.args.s.now cc) (λ x b q k. search (rules, tests)) ∙ sym (every_byte c.args.s.now)

@@ -7,7 +7,7 @@ pub returns-in-48-to-57 : goal.returns-in-48-to-57
 returns-in-48-to-57 c = sym (decimal c.args.b (omega arith) (omega arith))
 
 pub returns-in-97-to-102 : goal.returns-in-97-to-102
-returns-in-97-to-102 c = sym (letter c.args.b (omega arith) (omega arith))
+returns-in-97-to-102 c = rw (letter c.args.b (omega arith) (omega arith)) (omega arith)
 
 pub returns-in_default : goal.returns-in_default
 returns-in_default c = sym (below c.args.b (omega arith))

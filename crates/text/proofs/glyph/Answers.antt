@@ -1,10 +1,10 @@
 -- `text::glyph`: below ten a decimal digit, else a letter. Assumes nothing.
-use Rattle.std.proofs.Common.{arith}
+use Rattle.std.proofs.Common.{◌%◌, arith}
 use Rattle.text.proofs.Digits.{glyph_decimal, glyph_letter}
 use Rattle.text.proofs.glyph.Goals as goal
 
-pub returns-then-low-lt10 : goal.returns-then-low-lt10
-returns-then-low-lt10 c = omega (arith, glyph_decimal _ c.if-low-lt10.true)
+pub returns-in-0-to-9 : goal.returns-in-0-to-9
+returns-in-0-to-9 c = rw (glyph_decimal (c.args.value % 16) (omega arith)) (omega arith)
 
-pub returns : goal.returns
-returns c = omega (arith, glyph_letter _ c.if-low-lt10.false)
+pub returns-in_default : goal.returns-in_default
+returns-in_default c = rw (glyph_letter (c.args.value % 16) (omega arith)) (omega arith)

@@ -1,10 +1,7 @@
--- `text::read_digits`: after i digits the value is that of the first i. Assumes nothing.
-use Rattle.std.proofs.Common.{◌≡◌, ◌-◌, ◌%◌, ◌^◌, ◌≤◌, length, take}
+-- `text::read_digits`: after some digits the value is that of the first ones. Assumes nothing.
+use Rattle.std.proofs.Common.{◌≡◌, ◌%◌, ◌^◌, take}
 use Rattle.text.specs.Digits.{worth}
 use Rattle.text.proofs.read_digits.Given as goal
 
-abbrev pub invariant-loop-i : goal.invariant-loop-i
-invariant-loop-i l = (l.i ≤ length l.s) × (l.value ≡ worth (take l.i l.s) % 2 ^ 64)
-
-abbrev pub decreases-loop-i : goal.decreases-loop-i
-decreases-loop-i l = length l.s - l.i
+abbrev pub invariant-loop-b : goal.invariant-loop-b
+invariant-loop-b l = l.value ≡ worth (take l.b-index l.s) % 2 ^ 64
