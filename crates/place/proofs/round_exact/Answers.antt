@@ -1,7 +1,7 @@
 -- `place::round_exact` is right since nothing lies below the digits kept: truncation drops nothing, and no mode adds a unit. Assumes nothing.
 use mathlib.Core.Path.{refl}
 use Rattle.rounding.specs.declared.Mode.{Mode}
-use Prim.Native.Nat.{ℕ, ◌-◌, ◌*◌}
+use Prim.Native.Nat.{◌-◌, ◌*◌}
 use mathlib.Core.Bool.{Bool}
 use native.Mathlib.Omega.{arith}
 use lib.ListN.{length}
