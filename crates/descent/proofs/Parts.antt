@@ -9,7 +9,7 @@ use lib.Dec.{eqb}
 use lib.Pow.{pow_pos}
 use Rattle.rounding.specs.Mode.{way}
 use Rattle.rounding.specs.declared.Mode.{Mode}
-use Rattle.rounding.specs.declared.Mode.TheVariants.{Zeroward, Upward, Downward}
+use Rattle.rounding.specs.declared.Mode.TheVariants.{Nearest, Zeroward, Upward, Downward}
 use Rattle.settle.specs.declared.rows.Pair.{Pair}
 use Rattle.walk.specs.declared.state.Tail.TheVariants.{Empty, Zeros, Ones, Mixed}
 use Rattle.walk.specs.Window.{TailIs}
@@ -42,32 +42,28 @@ mixed_more t q h = some_more q h.1
 -- ---- the mode of a hole
 
 module _ (mode : Mode) (negative : Bool) (p : ℕ) (pair : Pair) where
-  pub mode_other : (mode ≡ 0 → ⊥) → way mode negative ≡ hole_way (way mode negative) p pair
+  -- only nearest has a tie, where as many digits are kept as lie before the second operand
+  pub mode_kept : (mode ≡ Nearest → p ≡ pair.gap → ⊥) → way mode negative ≡ hole_way (way mode negative) p pair
   unfolding hole_way middle? way
-  mode_other h = go mode h negative
+  mode_kept h = go mode h negative
     where
-      go : (m : ℕ) → (m ≡ 0 → ⊥) → (n : Bool) → way m n ≡ hole_way (way m n) p pair
-      go zero h n = absurd (h refl)
-      go (suc zero) h n = refl
-      go (suc (suc zero)) h true = refl
-      go (suc (suc zero)) h false = refl
-      go (suc (suc (suc m))) h true = refl
-      go (suc (suc (suc m))) h false = refl
+      go : (m : Mode) → (m ≡ Nearest → p ≡ pair.gap → ⊥) → (n : Bool) → way m n ≡ hole_way (way m n) p pair
+      go Nearest h n = rw (ne_eqb p pair.gap (h refl)) refl
+      go Zeroward h n = refl
+      go Upward h true = refl
+      go Upward h false = refl
+      go Downward h true = refl
+      go Downward h false = refl
 
-  module _ (e : mode ≡ 0) where
-    pub mode_apart : (p ≡ pair.gap → ⊥) → way mode negative ≡ hole_way (way mode negative) p pair
+  module _ (e : mode ≡ Nearest) (f : p ≡ pair.gap) where
+    pub mode_less : pair.same ≡ false → way Zeroward negative ≡ hole_way (way mode negative) p pair
     unfolding hole_way middle? way
-    mode_apart h = rw (e, ne_eqb p pair.gap h) refl
+    mode_less g = rw (e, eq-eqb p pair.gap f, g) refl
 
-    module _ (f : p ≡ pair.gap) where
-      pub mode_less : not pair.same ≡ true → way Zeroward negative ≡ hole_way (way mode negative) p pair
-      unfolding hole_way middle? way
-      mode_less g = rw (e, eq-eqb p pair.gap f, not-true pair.same g) refl
+    pub mode_more_up : pair.same ≡ true → negative ≡ false → way Upward negative ≡ hole_way (way mode negative) p pair
+    unfolding hole_way middle? way
+    mode_more_up g n = rw (e, eq-eqb p pair.gap f, g, n) refl
 
-      pub mode_more_down : not pair.same ≡ false → negative ≡ true → way Downward negative ≡ hole_way (way mode negative) p pair
-      unfolding hole_way middle? way
-      mode_more_down g n = rw (e, eq-eqb p pair.gap f, not-false pair.same g, n) refl
-
-      pub mode_more_up : not pair.same ≡ false → negative ≡ false → way Upward negative ≡ hole_way (way mode negative) p pair
-      unfolding hole_way middle? way
-      mode_more_up g n = rw (e, eq-eqb p pair.gap f, not-false pair.same g, n) refl
+    pub mode_more_down : pair.same ≡ true → negative ≡ true → way Downward negative ≡ hole_way (way mode negative) p pair
+    unfolding hole_way middle? way
+    mode_more_down g n = rw (e, eq-eqb p pair.gap f, g, n) refl

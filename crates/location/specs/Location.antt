@@ -16,6 +16,12 @@ unfoldable pub location_of : ℕ → ℕ → Location
 location_of zero u = Exact
 location_of (suc x) u = from_middle (compare (suc x * 2) u)
 
+-- whether a way takes what is not exact to the next unit, wherever it lies
+unfoldable pub goes_out : Way → Bool
+goes_out near = false
+goes_out under = false
+goes_out over = true
+
 -- whether the last unit is added; "on a tie, bp = 0"
 unfoldable pub goes_up : Way → Location → Bool → Bool
 goes_up w Exact odd = false
