@@ -10,7 +10,9 @@ use lib.Pow.{pow_pos, pow-add}
 use lib.Ieee.{binary64, to_bits, size}
 use borrow.Author.Tests.{eq-eqb, eqb-true, eqb-false}
 use Rattle.numbers.specs.Operand.{Operand, mantissa, last_weight, WellFormed}
-use Rattle.rounding.specs.Mode.{Way, mode_of, way}
+use Rattle.rounding.specs.Mode.{Way, way}
+use Rattle.rounding.specs.declared.Mode.{Mode}
+use Rattle.rounding.specs.declared.Mode.TheVariants.{Upward, Downward}
 use Rattle.rounding.specs.Select.{chosen}
 use Rattle.rounding.specs.Answer.{Answer, zero_of, number, too_large, too_small, digits}
 use Rattle.rounding.specs.Sum.{amount}
@@ -44,7 +46,7 @@ pub pair_is : (a b : Converted) → (refusal_of a).rule ≡ 0 → (refusal_of b)
 unfolding pair_of
 pair_is a b e f = rw (eq-eqb (refusal_of a).rule 0 e, eq-eqb (refusal_of b).rule 0 f) refl
 
-pub enclosed_is : (x : Operand) → WellFormed x → enclosed_of x ≡ pair_of (double_case (in_doubles 3 x)) (double_case (in_doubles 2 x))
+pub enclosed_is : (x : Operand) → WellFormed x → enclosed_of x ≡ pair_of (double_case (in_doubles Downward x)) (double_case (in_doubles Upward x))
 unfolding enclosed_of accepted
 enclosed_is x g = rw (alone_accepted x g) refl
 
@@ -84,16 +86,16 @@ module _ (x : Operand) (g : WellFormed x) (z : x.is_zero ≡ false) where
   abbrev s : ℕ
   s = last_weight x
 
-  abbrev c : ℕ → ℕ
-  c mode = chosen (way (mode_of mode) n) 53 m
+  abbrev c : Mode → ℕ
+  c mode = chosen (way mode n) 53 m
 
-  abbrev E : ℕ → ℕ
+  abbrev E : Mode → ℕ
   E mode = size (c mode) + s
 
-  abbrev bits : ℕ → ℕ
+  abbrev bits : Mode → ℕ
   bits mode = packed n (E mode) (digits 53 (c mode))
 
-  inside : (mode : ℕ) → (refusal_of (double_case (in_doubles mode x))).rule ≡ 0 → (double_least ≤ E mode) × (E mode ≤ double_most)
+  inside : (mode : Mode) → (refusal_of (double_case (in_doubles mode x))).rule ≡ 0 → (double_least ≤ E mode) × (E mode ≤ double_most)
   inside mode h = go (le_or_lt (E mode) double_most) (le_or_lt double_least (E mode))
     where
       go : (E mode ≤ double_most) ⊎ (double_most < E mode) → (double_least ≤ E mode) ⊎ (E mode < double_least) → (double_least ≤ E mode) × (E mode ≤ double_most)
@@ -101,7 +103,7 @@ module _ (x : Operand) (g : WellFormed x) (z : x.is_zero ≡ false) where
       go (inl a) (inr b) = absurd (refused_small (rw (in_doubles_lem mode x g z, is_under _ (E mode) b) at h))
       go (inl a) (inl b) = (b, a)
 
-  module _ (mode : ℕ) (lo : double_least ≤ E mode) (hi : E mode ≤ double_most) where
+  module _ (mode : Mode) (lo : double_least ≤ E mode) (hi : E mode ≤ double_most) where
     pub end_at : end_of (double_case (in_doubles mode x)) ≡ double (bits mode)
     end_at = ap (λ (a : Answer). end_of (double_case a)) (in_doubles_lem mode x g z ∙ is_inside _ (E mode) lo hi) ∙ end_is n (E mode) (digits 53 (c mode)) _
 
@@ -127,56 +129,56 @@ module _ (x : Operand) (g : WellFormed x) (z : x.is_zero ≡ false) where
       mul_one_one (chosen w 53 m) m (2 ^ s) (pow_pos s)
       (sym (chosen_shift w 53 m s (omega arith)) ∙ exact w 53 (m * 2 ^ s) (omega arith) (record { digits = double_digits b; shift = double_scale b - 1 + double_unit; few = digits_lt b; is = e }))
 
-  module _ (lo3 : double_least ≤ E 3) (hi3 : E 3 ≤ double_most) (lo2 : double_least ≤ E 2) (hi2 : E 2 ≤ double_most) where
-    below : Le n (c 3 * 2 ^ s) n (m * 2 ^ s)
-    unfolding selected mode_of
-    below = (selected_is_down 53 n m s (omega arith) (some 3 x g z)).not_above
+  module _ (lo3 : double_least ≤ E Downward) (hi3 : E Downward ≤ double_most) (lo2 : double_least ≤ E Upward) (hi2 : E Upward ≤ double_most) where
+    below : Le n (c Downward * 2 ^ s) n (m * 2 ^ s)
+    unfolding selected
+    below = (selected_is_down 53 n m s (omega arith) (some Downward x g z)).not_above
 
-    above : Le n (m * 2 ^ s) n (c 2 * 2 ^ s)
-    unfolding selected mode_of
-    above = (selected_is_up 53 n m s (omega arith) (some 2 x g z)).not_below
+    above : Le n (m * 2 ^ s) n (c Upward * 2 ^ s)
+    unfolding selected
+    above = (selected_is_up 53 n m s (omega arith) (some Upward x g z)).not_below
 
     squeezed : (n : Bool) (a b : ℕ) → Le n a n b → Le n b n a → a ≡ b
     squeezed false a b h k = le_antisymm h k
     squeezed true a b h k = le_antisymm k h
 
-    one_bits : double (bits 3) ≡ double (bits 2) → bits 3 ≡ bits 2
-    one_bits e = sym (bits_at 3 lo3 hi3) ∙ ap (to_bits binary64) e ∙ bits_at 2 lo2 hi2
+    one_bits : double (bits Downward) ≡ double (bits Upward) → bits Downward ≡ bits Upward
+    one_bits e = sym (bits_at Downward lo3 hi3) ∙ ap (to_bits binary64) e ∙ bits_at Upward lo2 hi2
 
-    is_double : double (bits 3) ≡ double (bits 2) → IsDouble x
+    is_double : double (bits Downward) ≡ double (bits Upward) → IsDouble x
     is_double e =
-        let same : c 3 * 2 ^ s ≡ c 2 * 2 ^ s = sym (worth_of 3 lo3 hi3) ∙ ap (λ (b : ℕ). double_worth b * 2 ^ double_unit) (one_bits e) ∙ worth_of 2 lo2 hi2 in
+        let same : c Downward * 2 ^ s ≡ c Upward * 2 ^ s = sym (worth_of Downward lo3 hi3) ∙ ap (λ (b : ℕ). double_worth b * 2 ^ double_unit) (one_bits e) ∙ worth_of Upward lo2 hi2 in
         record {
-          bits = bits 3;
-          finite = finite_of 3 lo3 hi3;
-          sign = sign_of 3 lo3 hi3;
-          worth = worth_of 3 lo3 hi3 ∙ squeezed n (c 3 * 2 ^ s) (m * 2 ^ s) below (subst (Le n (m * 2 ^ s) n) (sym same) above) ∙ sym (regular_amount x z);
+          bits = bits Downward;
+          finite = finite_of Downward lo3 hi3;
+          sign = sign_of Downward lo3 hi3;
+          worth = worth_of Downward lo3 hi3 ∙ squeezed n (c Downward * 2 ^ s) (m * 2 ^ s) below (subst (Le n (m * 2 ^ s) n) (sym same) above) ∙ sym (regular_amount x z);
         }
 
-    double_is : IsDouble x → double (bits 3) ≡ double (bits 2)
+    double_is : IsDouble x → double (bits Downward) ≡ double (bits Upward)
     double_is i =
-        ap (λ (k : ℕ). double (packed n (size k + s) (digits 53 k))) (double_chosen i (way (mode_of 3) n) ∙ sym (double_chosen i (way (mode_of 2) n)))
+        ap (λ (k : ℕ). double (packed n (size k + s) (digits 53 k))) (double_chosen i (way Downward n) ∙ sym (double_chosen i (way Upward n)))
 
-    pub regular_encloses : Encloses x (record { lower = double (bits 3); upper = double (bits 2) })
+    pub regular_encloses : Encloses x (record { lower = double (bits Downward); upper = double (bits Upward) })
     regular_encloses =
         record {
-          below = rw (bits_at 3 lo3 hi3, sign_of 3 lo3 hi3, worth_of 3 lo3 hi3, regular_amount x z) below;
-          above = rw (bits_at 2 lo2 hi2, sign_of 2 lo2 hi2, worth_of 2 lo2 hi2, regular_amount x z) above;
+          below = rw (bits_at Downward lo3 hi3, sign_of Downward lo3 hi3, worth_of Downward lo3 hi3, regular_amount x z) below;
+          above = rw (bits_at Upward lo2 hi2, sign_of Upward lo2 hi2, worth_of Upward lo2 hi2, regular_amount x z) above;
           equal = is_double;
           double = double_is;
         }
 
   pub regular_pair : (enclosed_of x).refusal.rule ≡ 0 → Encloses x (enclosed_of x).pair
   regular_pair h =
-      let u = unrefused (double_case (in_doubles 3 x)) (double_case (in_doubles 2 x)) (rw (enclosed_is x g) at h) in
-      let a = inside 3 u.0 in
-      let b = inside 2 u.1 in
-      rw (enclosed_is x g, pair_is _ _ u.0 u.1, end_at 3 a.0 a.1, end_at 2 b.0 b.1) (regular_encloses a.0 a.1 b.0 b.1)
+      let u = unrefused (double_case (in_doubles Downward x)) (double_case (in_doubles Upward x)) (rw (enclosed_is x g) at h) in
+      let a = inside Downward u.0 in
+      let b = inside Upward u.1 in
+      rw (enclosed_is x g, pair_is _ _ u.0 u.1, end_at Downward a.0 a.1, end_at Upward b.0 b.1) (regular_encloses a.0 a.1 b.0 b.1)
 
 -- ---- a zero
 
 module _ (x : Operand) (g : WellFormed x) (z : x.is_zero ≡ true) where
-  zero_in : (mode : ℕ) → in_doubles mode x ≡ zero_of x.negative
+  zero_in : (mode : Mode) → in_doubles mode x ≡ zero_of x.negative
   unfolding in_doubles converted_in
   zero_in mode = rw z refl
 
@@ -212,7 +214,7 @@ module _ (x : Operand) (g : WellFormed x) (z : x.is_zero ≡ true) where
       }
 
   pub zero_pair : Encloses x (enclosed_of x).pair
-  zero_pair = rw (enclosed_is x g, zero_in 3, zero_in 2, pair_is _ _ (zero_unrefused x.negative) (zero_unrefused x.negative), zero_end x.negative) zero_encloses
+  zero_pair = rw (enclosed_is x g, zero_in Downward, zero_in Upward, pair_is _ _ (zero_unrefused x.negative) (zero_unrefused x.negative), zero_end x.negative) zero_encloses
 
 -- "where neither is refused, they are equal exactly when the number is a double", and the number lies between them
 pub pair_encloses : (x : Operand) → WellFormed x → (enclosed_of x).refusal.rule ≡ 0 → Encloses x (enclosed_of x).pair

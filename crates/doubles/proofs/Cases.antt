@@ -18,6 +18,8 @@ use Rattle.numbers.specs.Limbs.{limbs_of}
 use Rattle.numbers.specs.Operand.{Operand, mantissa, last_weight, spare_bits, WellFormed}
 use Rattle.numbers.proofs.Digits.{mantissa_ge}
 use Rattle.rounding.specs.Mode.{mode_of, way}
+use Rattle.rounding.specs.declared.Mode.{Mode}
+use Rattle.rounding.specs.declared.Mode.TheVariants.{Upward, Downward}
 use Rattle.rounding.specs.Select.{chosen}
 use Rattle.rounding.specs.Answer.{Answer, zero_of, number, too_large, too_small, ranged, digits, signed, rounded}
 use Rattle.rounding.proofs.Order.{le_or_lt}
@@ -180,19 +182,19 @@ told_number n e d Ordering.lt h = rw h refl
 told_number n e d Ordering.eq h = rw h refl
 told_number n e d Ordering.gt h = rw h refl
 
-told_zero : (mode : ℕ) (x : Operand) → x.is_zero ≡ true → told (double_case (in_doubles mode x)) ≡ told_answer (in_doubles mode x)
+told_zero : (mode : Mode) (x : Operand) → x.is_zero ≡ true → told (double_case (in_doubles mode x)) ≡ told_answer (in_doubles mode x)
 unfolding in_doubles converted_in told double_case told_answer
 told_zero mode x z = rw (z, bits_back (sign_bit x.negative) (zero_lt x.negative) (zero_no_nan x.negative)) refl
 
 -- ---- a number to a double
 
-pub zero_case : (mode : ℕ) (x : Operand) (r : Converted) → x.is_zero ≡ true → r ≡ double_case (zero_of x.negative) → r ≡ double_case (in_doubles mode x)
+pub zero_case : (mode : Mode) (x : Operand) (r : Converted) → x.is_zero ≡ true → r ≡ double_case (zero_of x.negative) → r ≡ double_case (in_doubles mode x)
 unfolding in_doubles converted_in
 zero_case mode x r z e = rw z e
 
-module _ (mode : ℕ) (x : Operand) (g : WellFormed x) (z : x.is_zero ≡ false) where
+module _ (mode : Mode) (x : Operand) (g : WellFormed x) (z : x.is_zero ≡ false) where
   abbrev c : ℕ
-  c = chosen (way (mode_of mode) x.negative) 53 (mantissa x)
+  c = chosen (way mode x.negative) 53 (mantissa x)
 
   abbrev pub E : ℕ
   E = size c + last_weight x
@@ -218,7 +220,7 @@ module _ (mode : ℕ) (x : Operand) (g : WellFormed x) (z : x.is_zero ≡ false)
   few_digits = digits_few 53 c
 
   pub first_digit : 2 ^ 52 ≤ d
-  first_digit = digits_first 53 c (omega arith) (chosen_pos (way (mode_of mode) x.negative) 53 (mantissa x) (omega arith) (lt_of_lt_of_le (pow_pos (x.precision - 1)) (mantissa_ge x g z)))
+  first_digit = digits_first 53 c (omega arith) (chosen_pos (way mode x.negative) 53 (mantissa x) (omega arith) (lt_of_lt_of_le (pow_pos (x.precision - 1)) (mantissa_ge x g z)))
 
   module _ (s : Selected) (h : Selects mode x s) (r : Converted) where
     placed_is : s.placed ≡ placed_of (ranged E result)
@@ -258,7 +260,7 @@ module _ (mode : ℕ) (x : Operand) (g : WellFormed x) (z : x.is_zero ≡ false)
       go (inl h) (inl k) =
           rw (is_inside result E k h) (told_number x.negative E d t (bits_back (packed x.negative E d) (packed_lt x.negative E d k h first_digit few_digits) (packed_no_nan x.negative E d k h first_digit few_digits)))
 
-pub told_is : (mode : ℕ) (x : Operand) → WellFormed x → told (double_case (in_doubles mode x)) ≡ told_answer (in_doubles mode x)
+pub told_is : (mode : Mode) (x : Operand) → WellFormed x → told (double_case (in_doubles mode x)) ≡ told_answer (in_doubles mode x)
 told_is mode x g = go x.is_zero refl
   where
     go : (b : Bool) → x.is_zero ≡ b → told (double_case (in_doubles mode x)) ≡ told_answer (in_doubles mode x)
@@ -272,12 +274,15 @@ module _ (mode : ℕ) (x : Operand) (r : Refusal) (r_is : r ≡ converted_refusa
   unfolding converted_of told_of told
   refused_case h = rw (← r_is, ne_eqb r.rule 0 h) (refl, refl)
 
+  pub accepted_mode : ((i : ℕ) → get_or x.limbs i 0 < 2 ^ 64) → r.rule ≡ 0 → mode ≤ 3
+  accepted_mode b h = (accepted_converted mode x b (converted_unrefused mode x (ap (λ (a : Refusal). a.rule) (sym r_is) ∙ h))).0
+
   pub accepted_formed : ((i : ℕ) → get_or x.limbs i 0 < 2 ^ 64) → r.rule ≡ 0 → WellFormed x
   accepted_formed b h = (accepted_converted mode x b (converted_unrefused mode x (ap (λ (a : Refusal). a.rule) (sym r_is) ∙ h))).1
 
-  pub accepted_case : (a : Converted) → WellFormed x → r.rule ≡ 0 → a ≡ double_case (in_doubles mode x) → (a ≡ converted_of mode x) × (told a ≡ told_of mode x)
+  pub accepted_case : (a : Converted) → WellFormed x → r.rule ≡ 0 → a ≡ double_case (in_doubles (mode_of mode) x) → (a ≡ converted_of mode x) × (told a ≡ told_of mode x)
   unfolding converted_of told_of
-  accepted_case a g h e = rw (← r_is, eq-eqb r.rule 0 h) (e, ap told e ∙ told_is mode x g)
+  accepted_case a g h e = rw (← r_is, eq-eqb r.rule 0 h) (e, ap told e ∙ told_is (mode_of mode) x g)
 
 -- ---- the enclosing pair
 
@@ -295,9 +300,9 @@ module _ (down up : Converted) where
   unfolding pair_of accepted
   both_ends a b v w f h i j k l = rw (← f, eq-eqb a.rule 0 h, ← i, eq-eqb b.rule 0 j, k, l) refl
 
--- the down answer and the up answer are those of mode 3 and mode 2
-pub paired_ends : (x : Operand) (down up : Converted) (e : Enclosed) → down ≡ double_case (in_doubles 3 x) → up ≡ double_case (in_doubles 2 x) → e ≡ pair_of down up
-    → e ≡ pair_of (double_case (in_doubles 3 x)) (double_case (in_doubles 2 x))
+-- the down answer and the up answer are those of the two modes
+pub paired_ends : (x : Operand) (down up : Converted) (e : Enclosed) → down ≡ double_case (in_doubles Downward x) → up ≡ double_case (in_doubles Upward x) → e ≡ pair_of down up
+    → e ≡ pair_of (double_case (in_doubles Downward x)) (double_case (in_doubles Upward x))
 paired_ends x down up e i j k = rw (← i, ← j) k
 
 module _ (x : Operand) (r : Refusal) (r_is : r ≡ alone_refusal x) where
@@ -308,6 +313,6 @@ module _ (x : Operand) (r : Refusal) (r_is : r ≡ alone_refusal x) where
   pub alone_formed : ((i : ℕ) → get_or x.limbs i 0 < 2 ^ 64) → r.rule ≡ 0 → WellFormed x
   alone_formed b h = accepted_alone x b (alone_unrefused x (ap (λ (a : Refusal). a.rule) (sym r_is) ∙ h))
 
-  pub accepted_pair : (e : Enclosed) → r.rule ≡ 0 → e ≡ pair_of (double_case (in_doubles 3 x)) (double_case (in_doubles 2 x)) → e ≡ enclosed_of x
+  pub accepted_pair : (e : Enclosed) → r.rule ≡ 0 → e ≡ pair_of (double_case (in_doubles Downward x)) (double_case (in_doubles Upward x)) → e ≡ enclosed_of x
   unfolding enclosed_of
   accepted_pair e h k = rw (← r_is, eq-eqb r.rule 0 h) k

@@ -18,6 +18,7 @@ use Rattle.limb.specs.Value.{value_in, value_of, Below}
 use Rattle.numbers.specs.Limits.{least_precision, most_precision, bias, counted, least_exponent, most_exponent, limbs_for}
 use Rattle.numbers.specs.Operand.{Operand, mantissa, last_weight, spare_bits, WellFormed}
 use Rattle.rounding.specs.Mode.{mode_of, way}
+use Rattle.rounding.specs.declared.Mode.{Mode}
 use Rattle.rounding.specs.Answer.{number}
 use Rattle.rounding.specs.Sum.{amount, reround}
 use Rattle.rounding.proofs.Selection.{multiple}
@@ -78,12 +79,12 @@ zero_back b h e = go (eqb (exponent_field b) 0) refl
 
 -- ---- a number of 53 digits is converted as it is
 
-own : (mode : ℕ) (x : Operand) (g : WellFormed x) (z : x.is_zero ≡ false) → x.precision ≡ 53 → result mode x g z ≡ number x.negative x.exponent (mantissa x) Ordering.eq
+own : (mode : Mode) (x : Operand) (g : WellFormed x) (z : x.is_zero ≡ false) → x.precision ≡ 53 → result mode x g z ≡ number x.negative x.exponent (mantissa x) Ordering.eq
 own mode x g z p =
-    (accepted_only (way (mode_of mode) x.negative) 53 (last_weight x) x.negative (mantissa x) x.negative x.exponent (mantissa x) Ordering.eq
-    (sym (reround_is (mode_of mode) 53 x (omega arith) g z) ∙ subst (λ (q : ℕ). reround (mode_of mode) q x ≡ number x.negative x.exponent (mantissa x) Ordering.eq) p (reround_own (mode_of mode) x g z))).0
+    (accepted_only (way mode x.negative) 53 (last_weight x) x.negative (mantissa x) x.negative x.exponent (mantissa x) Ordering.eq
+    (sym (reround_is mode 53 x (omega arith) g z) ∙ subst (λ (q : ℕ). reround mode q x ≡ number x.negative x.exponent (mantissa x) Ordering.eq) p (reround_own mode x g z))).0
 
-module _ (mode : ℕ) (x : Operand) (g : WellFormed x) (z : x.is_zero ≡ false) (p : x.precision ≡ 53) where
+module _ (mode : Mode) (x : Operand) (g : WellFormed x) (z : x.is_zero ≡ false) (p : x.precision ≡ 53) where
   exponent_own : E mode x g z ≡ x.exponent
   exponent_own = let e = own mode x g z p in cc
 
@@ -230,11 +231,11 @@ module _ (b : ℕ) (finite : is_finite b ≡ true) (some : 0 < double_digits b) 
         rest : D - 2 ^ 52 ≡ fraction b
         rest = omega (arith, normal_digits)
 
-    normal_converted : (mode : ℕ) → b < 2 ^ 64 → double_case (in_doubles mode (read_back b)) ≡ Exact (double b)
+    normal_converted : (mode : Mode) → b < 2 ^ 64 → double_case (in_doubles mode (read_back b)) ≡ Exact (double b)
     normal_converted mode h =
         ap (λ (x : Operand). double_case (in_doubles mode x)) regular_is ∙ own_inside mode regular regular_formed refl refl normal_range.0 normal_range.1 ∙ ap (λ (k : ℕ). Exact (double k)) (normal_packed h)
 
-  low_converted : (mode : ℕ) → exponent_field b ≡ 0 → double_case (in_doubles mode (read_back b)) ≡ outside 13
+  low_converted : (mode : Mode) → exponent_field b ≡ 0 → double_case (in_doubles mode (read_back b)) ≡ outside 13
   low_converted mode e = ap (λ (x : Operand). double_case (in_doubles mode x)) regular_is ∙ own_under mode regular regular_formed refl refl (under e)
 
 -- ---- a zero
@@ -262,7 +263,7 @@ module _ (b : ℕ) (empty : double_digits b ≡ 0) where
   unfolding amount double_worth
   nothing_worth = sym (ap (λ (k : ℕ). k * 2 ^ (double_scale b - 1) * 2 ^ double_unit) empty ∙ ap (λ (k : ℕ). k * 2 ^ double_unit) (zero-mul (2 ^ (double_scale b - 1))) ∙ zero-mul (2 ^ double_unit))
 
-  zero_converted : (mode : ℕ) → b < 2 ^ 64 → double_case (in_doubles mode (read_back b)) ≡ Exact (double b)
+  zero_converted : (mode : Mode) → b < 2 ^ 64 → double_case (in_doubles mode (read_back b)) ≡ Exact (double b)
   unfolding in_doubles converted_in double_case
   zero_converted mode h = ap (λ (x : Operand). double_case (in_doubles mode x)) nothing_is ∙ ap (λ (k : ℕ). Exact (double k)) (zero_back b h empty)
 
@@ -280,7 +281,7 @@ read_worth b f = elim (zero_or (double_digits b)) [
 ]
 
 -- what is of good form, and a mode, are accepted
-converted_is : (mode : ℕ) (x : Operand) → mode ≤ 3 → WellFormed x → converted_of mode x ≡ double_case (in_doubles mode x)
+converted_is : (mode : ℕ) (x : Operand) → mode ≤ 3 → WellFormed x → converted_of mode x ≡ double_case (in_doubles (mode_of mode) x)
 unfolding converted_of accepted
 converted_is mode x m g = rw (converted_accepted mode x m g) refl
 
@@ -289,12 +290,12 @@ some_digits b k = elim (zero_or (double_digits b)) [ inl e ↦ absurd (normal_so
 
 -- a double that is normal or zero comes back from its number as itself, in every mode
 pub comes_back : (mode b : ℕ) → mode ≤ 3 → b < 2 ^ 64 → is_finite b ≡ true → (exponent_field b ≡ 0 → ⊥) ⊎ (double_digits b ≡ 0) → converted_of mode (read_back b) ≡ Exact (double b)
-comes_back mode b m h f (inl k) = converted_is mode (read_back b) m (read_formed b f) ∙ normal_converted b f (some_digits b k) k mode h
-comes_back mode b m h f (inr e) = converted_is mode (read_back b) m (read_formed b f) ∙ zero_converted b e mode h
+comes_back mode b m h f (inl k) = converted_is mode (read_back b) m (read_formed b f) ∙ normal_converted b f (some_digits b k) k (mode_of mode) h
+comes_back mode b m h f (inr e) = converted_is mode (read_back b) m (read_formed b f) ∙ zero_converted b e (mode_of mode) h
 
 -- a subnormal one is refused 13
 pub subnormal_refused : (mode b : ℕ) → mode ≤ 3 → is_finite b ≡ true → exponent_field b ≡ 0 → 0 < double_digits b → converted_of mode (read_back b) ≡ outside 13
-subnormal_refused mode b m f e h = converted_is mode (read_back b) m (read_formed b f) ∙ low_converted b f h mode e
+subnormal_refused mode b m f e h = converted_is mode (read_back b) m (read_formed b f) ∙ low_converted b f h (mode_of mode) e
 
 read_is : (d : Float) → is_number d ≡ true → read_of 1 d ≡ record { number = number_of_bits (to_bits binary64 d); refusal = accepted }
 unfolding read_of accepted

@@ -8,7 +8,8 @@ use lib.Pow.{pow_pos, pow-add}
 use lib.Ieee.{size}
 use Rattle.numbers.specs.Operand.{Operand, mantissa, last_weight, WellFormed}
 use Rattle.numbers.proofs.Digits.{mantissa_ge}
-use Rattle.rounding.specs.Mode.{mode_of, way}
+use Rattle.rounding.specs.Mode.{way}
+use Rattle.rounding.specs.declared.Mode.{Mode}
 use Rattle.rounding.specs.Select.{chosen}
 use Rattle.rounding.specs.Answer.{number, digits, signed}
 use Rattle.rounding.specs.Sum.{amount}
@@ -35,7 +36,7 @@ regular_amount x z = go x.is_zero z
     go true e = absurd (true≢false e)
     go false e = ap (λ (k : ℕ). mantissa x * 2 ^ k) (less (last_weight x))
 
-module _ (mode : ℕ) (x : Operand) (g : WellFormed x) (z : x.is_zero ≡ false) where
+module _ (mode : Mode) (x : Operand) (g : WellFormed x) (z : x.is_zero ≡ false) where
   abbrev n : Bool
   n = x.negative
 
@@ -46,7 +47,7 @@ module _ (mode : ℕ) (x : Operand) (g : WellFormed x) (z : x.is_zero ≡ false)
   s = last_weight x
 
   abbrev pub c : ℕ
-  c = chosen (way (mode_of mode) n) 53 m
+  c = chosen (way mode n) 53 m
 
   abbrev pub E : ℕ
   E = size c + s
@@ -58,7 +59,7 @@ module _ (mode : ℕ) (x : Operand) (g : WellFormed x) (z : x.is_zero ≡ false)
   some = lt_of_lt_of_le (pow_pos (x.precision - 1)) (mantissa_ge x g z)
 
   as_written : Written 53 s c d E
-  as_written = written 53 s c (omega arith) (chosen_pos (way (mode_of mode) n) 53 m (omega arith) some) (chosen_rep (way (mode_of mode) n) 53 m (omega arith))
+  as_written = written 53 s c (omega arith) (chosen_pos (way mode n) 53 m (omega arith) some) (chosen_rep (way mode n) 53 m (omega arith))
 
   pub inside_worth : double_least ≤ E → E ≤ double_most → double_worth (packed n E d) * 2 ^ double_unit ≡ c * 2 ^ s
   inside_worth lo hi =
@@ -77,11 +78,11 @@ module _ (mode : ℕ) (x : Operand) (g : WellFormed x) (z : x.is_zero ≡ false)
   -- the sign of double minus number
   pub answered_as_asked : double_least ≤ E → E ≤ double_most
       → (in_doubles mode x ≡ number n E d (signed n (compare c m)))
-      × Asks (mode_of mode) 53 n (amount 0 x) (double_sign (packed n E d)) (double_worth (packed n E d) * 2 ^ double_unit)
+      × Asks mode 53 n (amount 0 x) (double_sign (packed n E d)) (double_worth (packed n E d) * 2 ^ double_unit)
       × Sign (signed n (compare c m)) n c n m
   unfolding selected
   answered_as_asked lo hi = (
     in_doubles_lem mode x g z ∙ is_inside _ E lo hi,
-    rw (regular_amount x z, inside_worth lo hi, packed_sign n E d lo hi (first_digit mode x g z) (few_digits mode x g z)) (selected_is_asked 53 n m s (omega arith) some (mode_of mode)),
+    rw (regular_amount x z, inside_worth lo hi, packed_sign n E d lo hi (first_digit mode x g z) (few_digits mode x g z)) (selected_is_asked 53 n m s (omega arith) some mode),
     ternary_is_sign n c m,
   )

@@ -1,5 +1,6 @@
 -- `doubles::enclose`: where nothing is refused the number is of good form, and the ends are the down and the up answer; a zero's case is that of both modes. Assumes nothing.
 use mathlib.Core.Path.{sym, ◌∙◌}
+use Rattle.rounding.specs.declared.Mode.TheVariants.{Upward, Downward}
 use Rattle.checks.specs.Number.{operand_of}
 use Rattle.doubles.proofs.Cases.{zero_case, refused_pair, alone_formed, paired_ends, accepted_pair}
 use Rattle.doubles.proofs.enclose.Goals as goal
@@ -12,7 +13,7 @@ unfolding operand_of
 returns-then-is_zero c =
     let z = sym c.is_zero.ensures ∙ c.if-is_zero.true in
     let e = c.zero_exact-zero.ensures in
-    accepted_pair _ _ c.check_alone-refusal.ensures _ c.if-refusal-ne0.false (paired_ends _ _ _ _ (zero_case 3 _ _ z e) (zero_case 2 _ _ z e) c.pair_of.ensures)
+    accepted_pair _ _ c.check_alone-refusal.ensures _ c.if-refusal-ne0.false (paired_ends _ _ _ _ (zero_case Downward _ _ z e) (zero_case Upward _ _ z e) c.pair_of.ensures)
 
 pub enclose_regular-requires : goal.enclose_regular-requires
 unfolding operand_of

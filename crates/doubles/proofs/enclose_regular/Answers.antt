@@ -1,4 +1,4 @@
--- `doubles::enclose_regular`: both ends are judged of one reading of the leading digits, mode 3 and mode 2. Assumes nothing.
+-- `doubles::enclose_regular`: both ends are judged of one reading of the leading digits. Assumes nothing.
 use Rattle.checks.specs.Number.{operand_of}
 use Rattle.select.proofs.Run.{limb_count}
 use Rattle.doubles.proofs.Cases.{paired_ends}
