@@ -22,7 +22,7 @@ mod few; // few.rt: one or two limbs, by value
 mod level; // level.rt: two limbs each that are alike in the upper one, into one limb
 
 use checks::Number;
-use choice::either_run;
+use choice::either;
 pub use level::subtract_lower;
 use place::Placed;
 use rounding::Mode;
@@ -68,8 +68,8 @@ fn subtract_in_order<'a>(target: &mut [u64], z: usize, swapped: bool, a: &'a [u6
     requires { Reducible (cond swapped b.now a.now) (cond swapped a.now b.now) (length target.old) z }
     ensures { Subtracted (cond swapped b.now a.now) (cond swapped a.now b.now) target.old target.new z }
 {
-    let first = either_run(swapped, a, b);
-    let second = either_run(swapped, b, a);
+    let first = either(swapped, a, b);
+    let second = either(swapped, b, a);
     subtract_below(target, z, first, second);
 }
 

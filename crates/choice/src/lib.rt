@@ -3,23 +3,9 @@
 
 ghost use Rattle.std.specs.Prelude.{◌≡◌, not, cond, ◌&&◌, ◌||◌, ltb, eqb};
 
-// The first of two counts, or the second.
-pub fn either(second: bool, a: u64, b: u64) -> u64
+// The first of two, or the second.
+pub fn either<T: Copy>(second: bool, a: T, b: T) -> T
     ensures { result ≡ cond second b a }
-{
-    if second { b } else { a }
-}
-
-// The first of two signs, or the second.
-pub fn either_sign(second: bool, a: bool, b: bool) -> bool
-    ensures { result ≡ cond second b a }
-{
-    if second { b } else { a }
-}
-
-// The first of two runs, or the second.
-pub fn either_run<'a>(second: bool, a: &'a [u64], b: &'a [u64]) -> &'a [u64]
-    ensures { result.now ≡ cond second b.now a.now }
 {
     if second { b } else { a }
 }

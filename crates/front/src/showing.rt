@@ -25,7 +25,7 @@ pub fn begin(same: bool, u: u64, low: u64) -> Front
         let s = limb::add_carry(u, low, false);
         return Front {
             carry: s.carry,
-            limb: s.sum,
+            limb: s.limb,
             tail: Tail::Empty,
         };
     }
@@ -77,15 +77,15 @@ fn changed(carry: bool, limb: u64, tail: Tail, change: Change) -> Front
             let s = limb::add_carry(limb, 1, false);
             Front {
                 carry: carry | s.carry,
-                limb: s.sum,
+                limb: s.limb,
                 tail,
             }
         }
         Change::Fall => {
             let d = limb::sub_borrow(limb, 1, false);
             Front {
-                carry: carry & !d.borrow,
-                limb: d.difference,
+                carry: carry & !d.carry,
+                limb: d.limb,
                 tail,
             }
         }
@@ -110,13 +110,13 @@ pub fn step(same: bool, front: Front, a: u64, b: u64) -> Front
     if same {
         let s = limb::add_carry(a, b, false);
         if s.carry {
-            return append(front, s.sum, Change::Rise);
+            return append(front, s.limb, Change::Rise);
         }
-        return append(front, s.sum, Change::Stay);
+        return append(front, s.limb, Change::Stay);
     }
     let d = limb::sub_borrow(a, b, false);
-    if d.borrow {
-        return append(front, d.difference, Change::Fall);
+    if d.carry {
+        return append(front, d.limb, Change::Fall);
     }
-    append(front, d.difference, Change::Stay)
+    append(front, d.limb, Change::Stay)
 }

@@ -29,7 +29,7 @@ fn add_unit(target: &mut [u64], spare: u64) -> bool
             return false;
         }
         let s = limb::add_carry(target[i], add, false);
-        target[i] = s.sum;
+        target[i] = s.limb;
         add = s.carry as u64;
         i += 1;
     }
@@ -75,7 +75,7 @@ pub fn raise(limb: u64, spare: u64, up: bool) -> Raised
         };
     }
     Raised {
-        limb: s.sum,
+        limb: s.limb,
         over: false,
     }
 }

@@ -39,13 +39,13 @@ pub fn guarded_columns(
         let carry = sum_above(target, first, second, gap, k, s.carry);
         return Guarded {
             carry: carry,
-            guard: s.sum,
+            guard: s.limb,
         };
     }
     let d = limb::sub_borrow(a, b, false);
     difference_above(target, first, second, gap, k, d.borrow);
     Guarded {
         carry: false,
-        guard: d.difference,
+        guard: d.limb,
     }
 }

@@ -75,7 +75,7 @@ fn sum_columns(
     let a = columns::column(first, m, 0, k);
     let b = columns::column(second, n, gap, k);
     let s = limb::add_carry(a, b, false);
-    target[0] = s.sum;
+    target[0] = s.limb;
     sum_above(&mut target[1..], first, second, gap, k, s.carry)
 }
 
@@ -95,8 +95,8 @@ fn difference_columns(
     let a = columns::column(first, m, 0, k);
     let b = columns::column(second, n, gap, k);
     let d = limb::sub_borrow(a, b, false);
-    target[0] = d.difference;
-    difference_above(&mut target[1..], first, second, gap, k, d.borrow)
+    target[0] = d.limb;
+    difference_above(&mut target[1..], first, second, gap, k, d.carry)
 }
 
 // The columns of one operand to column k and with it.

@@ -1,5 +1,5 @@
 -- Laws of carries and borrows: what one wrapping sum or difference drops, and that two in a row drop at most one 2^64. Assumes nothing.
-use Rattle.std.proofs.Common.{◌≡◌, ℕ, ◌+◌, ◌*◌, ◌/◌, ◌%◌, ◌^◌, ◌<◌, ◌≤◌, Bool, true, false, ◌||◌, ltb, sym, refl, ap, ◌∙◌, mod-eq_of_lt, zero-add, arith, le-ltb, lt-ltb}
+use Rattle.std.proofs.Common.{◌≡◌, ℕ, ◌+◌, ◌-◌, ◌*◌, ◌/◌, ◌%◌, ◌^◌, ◌<◌, ◌≤◌, Bool, true, false, ◌||◌, ltb, sym, refl, ap, ◌∙◌, mod-eq_of_lt, zero-add, arith, le-ltb, lt-ltb}
 use native.Mathlib.Decide.{dec_le}
 use native.Mathlib.Nat.{add-mul-div_left, add-mul-mod_self_left, div-eq_of_lt}
 use mir.Val.{bool_byte}
@@ -36,6 +36,13 @@ difference_borrow a b d ha hb hd e =
       | yes h ↦ rw (le-ltb a b h) (omega arith)
       | no h ↦ rw (lt-ltb a b (omega arith)) (omega arith)
     ]
+
+-- so it does as the machine takes it
+pub wrapped_lt : (a b : ℕ) → (a + (2 ^ 64 - b)) % 2 ^ 64 < 2 ^ 64
+wrapped_lt a b = omega arith
+
+pub wrapped_borrow : (a b : ℕ) → a < 2 ^ 64 → b < 2 ^ 64 → (a + (2 ^ 64 - b)) % 2 ^ 64 + b ≡ a + 2 ^ 64 * bit (ltb a b)
+wrapped_borrow a b ha hb = difference_borrow a b _ ha hb (wrapped_lt a b) (omega arith)
 
 module _ (B : ℕ) where
   -- two sums in a row, the second of them with 1 at most: one of the two at most carries

@@ -58,9 +58,9 @@ fn sum_column(p: u64, pair: Pair, u: u64, low: u64) -> Column
     let s = limb::add_carry(u, low, false);
     let drop = 64 + (s.carry as u64) - p;
     Column {
-        fixed: is_fixed(pair, s.sum, drop),
+        fixed: is_fixed(pair, s.limb, drop),
         carry: s.carry,
-        limb: s.sum,
+        limb: s.limb,
         guard: 0,
         more: 64 <= pair.gap,
     }

@@ -7,7 +7,7 @@ ghost use Rattle.narrow.specs.Looked.{Looked};
 
 use crate::seeing::{Seen, see};
 use checks::Number;
-use choice::{either, either_sign};
+use choice::either;
 use rounding::Mode;
 use settle::Pair;
 
@@ -37,7 +37,7 @@ pub fn look(mode: Mode, x: Number, xl: &[u64], y: Number, yl: &[u64], p: u64) ->
     let a = checks::counted_exponent(x.exponent);
     let b = checks::counted_exponent(y.exponent);
     let swapped = is_second_larger(a, b, u, v);
-    let larger = either_sign(swapped, x.negative, y.negative);
+    let larger = either(swapped, x.negative, y.negative);
     let top = either(swapped, a, b);
     let gap = top - either(swapped, b, a);
     let pair = Pair {

@@ -31,8 +31,8 @@ fn guard_of(same: bool, lowest: u64, gap: u64) -> Guard
     }
     let d = limb::sub_borrow(0, below, false);
     Guard {
-        limb: d.difference,
-        borrow: d.borrow,
+        limb: d.limb,
+        borrow: d.carry,
     }
 }
 

@@ -1,13 +1,23 @@
 -- Laws of `trimmed`: what it drops is worth nothing, it keeps the lowest limb that is not 0, and it is all there is to drop. Assumes nothing.
 use mathlib.Core.Path.{◌≡◌, refl, ap}
 use mathlib.Core.List.{List, [], ◌∷◌}
-use Prim.Native.Nat.{ℕ, zero, suc, ◌-◌, ◌*◌, ◌^◌, ◌≤◌, ◌<◌}
+use Prim.Native.Nat.{ℕ, zero, suc, ◌+◌, ◌-◌, ◌*◌, ◌^◌, ◌≤◌, ◌<◌}
 use native.Mathlib.Nat.{pow-zero, pow-succ'}
 use native.Mathlib.Omega.{arith}
 use lib.ListN.{length, get_or, drop}
 use lib.Seq.{drop-cons}
+use Rattle.std.specs.List.{position, position_or_len}
+use Rattle.std.specs.Option.{unwrap_or}
+use native.Mathlib.Decide.{dec_le}
+use Rattle.std.proofs.Common.{false, not, eqb, le-ltb, lt-ltb, ne_eqb}
 use Rattle.limb.specs.Value.{value_in}
 use Rattle.parts.specs.Trimmed.{trimmed}
+
+one_add : (n : ℕ) → 1 + n ≡ suc n
+one_add n = omega arith
+
+some : (x : ℕ) → eqb (suc x) 0 ≡ false
+some x = ne_eqb (suc x) 0 (λ e. omega arith)
 
 pub trimmed_nil : trimmed [] ≡ []
 unfolding trimmed
@@ -75,3 +85,32 @@ trimmed_to_nothing [] e i = refl
 trimmed_to_nothing (zero ∷ xs) e zero = refl
 trimmed_to_nothing (zero ∷ xs) e (suc i) = trimmed_to_nothing xs e i
 trimmed_to_nothing (suc x ∷ xs) e i = absurd (omega (arith, ap length e))
+
+-- the place of the lowest limb that is not 0, and the end where there is none
+abbrev start_of : List ℕ → ℕ
+start_of l = unwrap_or (position (λ x. not (eqb x 0)) l) (length l)
+
+start_most : (l : List ℕ) → position_or_len (λ x. not (eqb x 0)) l ≤ length l
+start_most [] = omega arith
+start_most (zero ∷ xs) = omega (arith, start_most xs)
+start_most (suc x ∷ xs) = rw (some x) (omega arith)
+
+start_is : (l : List ℕ) → start_of l ≡ position_or_len (λ x. not (eqb x 0)) l
+start_is l =
+    elim (dec_le (length l) (position_or_len (λ x. not (eqb x 0)) l)) [
+      | yes h ↦ rw (le-ltb (position_or_len (λ x. not (eqb x 0)) l) (length l) h) (omega (arith, h, start_most l))
+      | no h ↦ rw (lt-ltb (position_or_len (λ x. not (eqb x 0)) l) (length l) (omega arith)) refl
+    ]
+
+pub start_within : (l : List ℕ) → start_of l ≤ length l
+start_within l = rw (start_is l) (start_most l)
+
+kept_from : (l : List ℕ) → drop (position_or_len (λ x. not (eqb x 0)) l) l ≡ trimmed l
+unfolding trimmed
+kept_from [] = refl
+kept_from (zero ∷ xs) = rw (one_add (position_or_len (λ x. not (eqb x 0)) xs)) (kept_from xs)
+kept_from (suc x ∷ xs) = rw (some x) refl
+
+-- the limbs from there on are what is kept
+pub trimmed_from_start : (l : List ℕ) → drop (start_of l) l ≡ trimmed l
+trimmed_from_start l = rw (start_is l) (kept_from l)

@@ -1,8 +1,7 @@
 // Parts of a run of limbs: one limb, the limbs from a place on, clearing, copying, trimming.
 #![tactic(auto)]
 
-ghost use Rattle.std.specs.Prelude.{◌≡◌, ◌+◌, ◌≤◌, length, get_or, drop, replicate};
-ghost use Rattle.parts.specs.Copied.{CopiedTo};
+ghost use Rattle.std.specs.Prelude.{◌≡◌, ◌+◌, ◌≤◌, ◌==◌, not, length, get_or, drop, replicate, position};
 ghost use Rattle.parts.specs.Trimmed.{trimmed};
 
 // The limb at i, and 0 past the end.
@@ -24,38 +23,7 @@ pub fn part_from(s: &[u64], start: usize) -> &[u64]
 pub fn clear(target: &mut [u64])
     ensures { target.new ≡ replicate (length target.old) 0 }
 {
-    let mut i = 0;
-    while i < target.len() {
-        target[i] = 0;
-        i += 1;
-    }
-}
-
-// Copies four limbs from limb i on, all read before one is written: the compiler moves two at once.
-fn copy_four(target: &mut [u64], source: &[u64], i: usize)
-    requires { (i + 4 ≤ length target.old) × CopiedTo i source.now target.old }
-    ensures { CopiedTo (i + 4) source.now target.new }
-{
-    let a = source[i];
-    let b = source[i + 1];
-    let c = source[i + 2];
-    let d = source[i + 3];
-    target[i] = a;
-    target[i + 1] = b;
-    target[i + 2] = c;
-    target[i + 3] = d;
-}
-
-// Copies the limbs from limb `start` on, one by one.
-fn copy_rest(target: &mut [u64], source: &[u64], start: usize)
-    requires { (start ≤ length target.old) × CopiedTo start source.now target.old }
-    ensures { target.new ≡ source.now }
-{
-    let mut i = start;
-    while i < source.len() {
-        target[i] = source[i];
-        i += 1;
-    }
+    target.fill(0);
 }
 
 // Copies limbs into a target of as many.
@@ -63,34 +31,20 @@ pub fn copy(target: &mut [u64], source: &[u64])
     requires { length source.now ≡ length target.old }
     ensures { target.new ≡ source.now }
 {
-    let end = target.len() - target.len() % 8;
-    let mut i = 0;
-    while i < end {
-        copy_four(target, source, i);
-        copy_four(target, source, i + 4);
-        i += 8;
-    }
-    copy_rest(target, source, i)
+    target.copy_from_slice(source);
 }
 
-// How many limbs at the bottom are 0: the place of the lowest one that is not, or the end.
-fn zeros(s: &[u64]) -> usize
-    ensures { (result ≤ length s.now) × (drop result s.now ≡ trimmed s.now) }
+// The place of the lowest limb that is not 0.
+fn lowest(s: &[u64]) -> Option<usize>
+    ensures { result ≡ position (λ x. not (x == 0)) s.now }
 {
-    let mut i = 0;
-    while i < s.len() {
-        if s[i] != 0 {
-            return i;
-        }
-        i += 1;
-    }
-    i
+    s.iter().position(|limb| *limb != 0)
 }
 
 // The caller's own limbs from the lowest non-zero one to the top, and nothing if all are 0.
 pub fn trim(s: &[u64]) -> &[u64]
     ensures { result.now ≡ trimmed s.now }
 {
-    let start = zeros(s);
+    let start = lowest(s).unwrap_or(s.len());
     &s[start..]
 }

@@ -40,7 +40,7 @@ pub fn sum(limb: u64, high: u64, low: u64) -> Head
     let s = limb::add_carry(limb, high, false);
     Head {
         carry: s.carry,
-        high: s.sum,
+        high: s.limb,
         low: low,
     }
 }
@@ -51,11 +51,11 @@ pub fn difference(first: Head, second: Head) -> Head
     ensures { (result.carry ≡ false) × (head_in (2 ^ 64) false result.high result.low ≡ head_in (2 ^ 64) false first.high first.low - head_in (2 ^ 64) false second.high second.low) }
 {
     let l = limb::sub_borrow(first.low, second.low, false);
-    let h = limb::sub_borrow(first.high, second.high, l.borrow);
+    let h = limb::sub_borrow(first.high, second.high, l.carry);
     Head {
         carry: false,
-        high: h.difference,
-        low: l.difference,
+        high: h.limb,
+        low: l.limb,
     }
 }
 

@@ -105,9 +105,9 @@ pub fn append_sum(w: Window, target: &mut [u64], a: u64, b: u64) -> Window
 {
     let s = limb::add_carry(a, b, false);
     if s.carry {
-        append(w, target, s.sum, Change::Rise)
+        append(w, target, s.limb, Change::Rise)
     } else {
-        append(w, target, s.sum, Change::Stay)
+        append(w, target, s.limb, Change::Stay)
     }
 }
 
@@ -146,11 +146,11 @@ pub fn append_difference(w: Window, target: &mut [u64], a: u64, b: u64) -> Windo
     let s = limb::sub_borrow(a, b, false);
     let filled = w.filled;
     if filled == 0 {
-        return lead(w, target, s.difference, s.borrow);
+        return lead(w, target, s.limb, s.carry);
     }
-    if s.borrow {
-        append(w, target, s.difference, Change::Fall)
+    if s.carry {
+        append(w, target, s.limb, Change::Fall)
     } else {
-        append(w, target, s.difference, Change::Stay)
+        append(w, target, s.limb, Change::Stay)
     }
 }

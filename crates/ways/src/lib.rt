@@ -10,7 +10,7 @@ ghost use Rattle.wide.specs.Attempted.{Attempted};
 ghost use Rattle.deep.specs.Deep.{Deep};
 
 use checks::Number;
-use choice::{either, either_run, either_sign, is_level, is_second_larger};
+use choice::{either, is_level, is_second_larger};
 use rounding::Mode;
 use settle::Pair;
 use wide::{Attempt, Filled, nothing};
@@ -180,8 +180,8 @@ fn read_as_said<'a>(
     requires { Room p (length target.old) × Offered pair (cond swapped yl.now xl.now) (cond swapped xl.now yl.now) }
     ensures { (length target.new ≡ length target.old) × (result.open ≡ false → (z w : Operand) → Holding z w pair (cond swapped yl.now xl.now) (cond swapped xl.now yl.now) → negative ≡ z.negative → Attempted mode p z w target.new result.negative result.placed result.depth (cond swapped result.second result.first) (cond swapped result.first result.second)) }
 {
-    let first = either_run(swapped, xl, yl);
-    let second = either_run(swapped, yl, xl);
+    let first = either(swapped, xl, yl);
+    let second = either(swapped, yl, xl);
     read_in_order(mode, negative, p, pair, swapped, first, second, target)
 }
 
@@ -218,7 +218,7 @@ fn add_regular<'a>(
         gap: top - either(swapped, b, a),
         top: top,
     };
-    let negative = either_sign(swapped, x.negative, y.negative);
+    let negative = either(swapped, x.negative, y.negative);
     read_as_said(mode, negative, p, pair, swapped, xl, yl, target)
 }
 

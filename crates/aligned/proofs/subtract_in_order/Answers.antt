@@ -3,7 +3,7 @@ use Rattle.aligned.proofs.AsFound.{reducible_named, subtracted_named}
 use Rattle.aligned.proofs.subtract_in_order.Goals as goal
 
 pub subtract_below-requires : goal.subtract_below-requires
-subtract_below-requires c = reducible_named c.either_run-first.ensures c.either_run-second.ensures c.requires
+subtract_below-requires c = reducible_named c.either-first.ensures c.either-second.ensures c.requires
 
 pub returns : goal.returns
-returns c = subtracted_named c.either_run-first.ensures c.either_run-second.ensures c.subtract_below.ensures
+returns c = subtracted_named c.either-first.ensures c.either-second.ensures c.subtract_below.ensures

@@ -10,4 +10,4 @@ returns c =
     let g = c.args in
     let l = c.sub_borrow-l in
     let h = c.sub_borrow-h in
-    (refl, difference_is (2 ^ 64) g.first.high g.first.low g.second.high g.second.low h.result.difference l.result.difference l.result.borrow h.result.borrow (search rules) (search rules) c.requires l.ensures h.ensures)
+    (refl, difference_is (2 ^ 64) g.first.high g.first.low g.second.high g.second.low h.result.limb l.result.limb l.result.carry h.result.carry (search rules) (search rules) c.requires l.ensures h.ensures)

@@ -5,4 +5,4 @@ use Rattle.twolimbs.proofs.TwoLimbs.{sum_is}
 use Rattle.twolimbs.proofs.sum.Goals as goal
 
 pub returns : goal.returns
-returns c = (sum_is (2 ^ 64) c.args.limb c.args.high c.args.low c.add_carry-s.result.sum c.add_carry-s.result.carry c.add_carry-s.ensures, refl)
+returns c = (sum_is (2 ^ 64) c.args.limb c.args.high c.args.low c.add_carry-s.result.limb c.add_carry-s.result.carry c.add_carry-s.ensures, refl)

@@ -66,4 +66,4 @@ pub returns : goal.returns
 returns c =
     let first = rw (to_z-of_z (record { sfits = c.struct_told-1.given.1.1.1.0.1 })) at c.counted_exponent-a.ensures in
     let second = rw (to_z-of_z (record { sfits = c.struct_told-2-1.given.1.1.1.0.1 })) at c.counted_exponent-b.ensures in
-    (c.read_as_said.auto.target, λ e. attempted_told c.args.mode c.args.p _ c.requires.4 (operand_of c.args.x c.args.xl.now) (operand_of c.args.y c.args.yl.now) c.requires.1 c.requires.3 c.is_second_larger-swapped.result _ _ _ _ c.read_as_said.result.first c.read_as_said.result.second (c.read_as_said.ensures.1 e _ _ (holding c.args.x c.args.xl.now c.args.y c.args.yl.now c.requires.0 c.requires.1 c.requires.2 c.requires.3 _ _ _ _ first second refl refl c.is_second_larger-swapped.result c.is_second_larger-swapped.ensures c.is_level.result c.is_level.ensures c.if-is_level.false _ _ _ _ c.either-top.ensures c.either-3.ensures c.either.ensures c.either-2.ensures) (sign_told c.args.x c.args.xl.now c.args.y c.args.yl.now c.requires.0 c.requires.1 c.requires.2 c.requires.3 _ _ _ _ first second refl refl c.is_second_larger-swapped.result c.is_second_larger-swapped.ensures c.is_level.result c.is_level.ensures c.if-is_level.false _ c.either_sign-negative.ensures)))
+    (c.read_as_said.auto.target, λ e. attempted_told c.args.mode c.args.p _ c.requires.4 (operand_of c.args.x c.args.xl.now) (operand_of c.args.y c.args.yl.now) c.requires.1 c.requires.3 c.is_second_larger-swapped.result _ _ _ _ c.read_as_said.result.first c.read_as_said.result.second (c.read_as_said.ensures.1 e _ _ (holding c.args.x c.args.xl.now c.args.y c.args.yl.now c.requires.0 c.requires.1 c.requires.2 c.requires.3 _ _ _ _ first second refl refl c.is_second_larger-swapped.result c.is_second_larger-swapped.ensures c.is_level.result c.is_level.ensures c.if-is_level.false _ _ _ _ c.either-top.ensures c.either-3.ensures c.either.ensures c.either-2.ensures) (sign_told c.args.x c.args.xl.now c.args.y c.args.yl.now c.requires.0 c.requires.1 c.requires.2 c.requires.3 _ _ _ _ first second refl refl c.is_second_larger-swapped.result c.is_second_larger-swapped.ensures c.is_level.result c.is_level.ensures c.if-is_level.false _ c.either-negative.ensures)))

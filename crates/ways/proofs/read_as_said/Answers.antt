@@ -3,7 +3,7 @@ use Rattle.ways.proofs.Chosen.{holding_named, offered_named}
 use Rattle.ways.proofs.read_as_said.Goals as goal
 
 pub read_in_order-requires : goal.read_in_order-requires
-read_in_order-requires c = (c.requires.0, offered_named c.either_run-first.ensures c.either_run-second.ensures c.requires.1)
+read_in_order-requires c = (c.requires.0, offered_named c.either-first.ensures c.either-second.ensures c.requires.1)
 
 pub returns : goal.returns
-returns c = (c.read_in_order.auto.target, λ e z w h sign. c.read_in_order.ensures.1 e z w (holding_named c.either_run-first.ensures c.either_run-second.ensures h) sign)
+returns c = (c.read_in_order.auto.target, λ e z w h sign. c.read_in_order.ensures.1 e z w (holding_named c.either-first.ensures c.either-second.ensures h) sign)

@@ -7,7 +7,7 @@ pub returns-then-same : goal.returns-then-same
 returns-then-same c =
     let g = c.args in
     let s = c.add_carry-s in
-    rw c.if-same.true (refl, first_sum s.result.carry s.result.sum g.u g.low _ s.ensures)
+    rw c.if-same.true (refl, first_sum s.result.carry s.result.limb g.u g.low _ s.ensures)
 
 pub overflow_sub-result : goal.overflow_sub-result
 overflow_sub-result c = c.requires c.if-same.false

@@ -12,10 +12,10 @@ pub returns-in-Rise : goal.returns-in-Rise
 returns-in-Rise c =
     let g = c.args in
     let s = c.add_carry-s in
-    rw c.in-Rise.is (first_rises g.carry g.limb g.tail s.result.sum s.result.carry s.ensures)
+    rw c.in-Rise.is (first_rises g.carry g.limb g.tail s.result.limb s.result.carry s.ensures)
 
 pub returns-in-Fall : goal.returns-in-Fall
 returns-in-Fall c =
     let g = c.args in
     let d = c.sub_borrow-d in
-    rw c.in-Fall.is (first_falls g.carry g.limb g.tail d.result.difference d.result.borrow (omega arith) d.ensures)
+    rw c.in-Fall.is (first_falls g.carry g.limb g.tail d.result.limb d.result.carry (omega arith) d.ensures)

@@ -10,7 +10,7 @@ returns-then-s c =
     let g = c.args in
     let s = c.add_carry-s in
     let e = rw c.if-s.true at s.ensures in
-    rw c.if-same.true (sum_rises g.front c.append.result g.a g.b s.result.sum e c.append.ensures)
+    rw c.if-same.true (sum_rises g.front c.append.result g.a g.b s.result.limb e c.append.ensures)
 
 pub returns-then-same : goal.returns-then-same
 unfolding bit
@@ -18,7 +18,7 @@ returns-then-same c =
     let g = c.args in
     let s = c.add_carry-s in
     let e = rw c.if-s.false at s.ensures in
-    rw c.if-same.true (sum_stays g.front c.append-then-same.result g.a g.b s.result.sum e c.append-then-same.ensures)
+    rw c.if-same.true (sum_stays g.front c.append-then-same.result g.a g.b s.result.limb e c.append-then-same.ensures)
 
 pub returns-then-d : goal.returns-then-d
 unfolding bit
@@ -26,7 +26,7 @@ returns-then-d c =
     let g = c.args in
     let d = c.sub_borrow-d in
     let e = rw c.if-d.true at d.ensures in
-    rw c.if-same.false (difference_falls g.front c.append-then-d.result g.a g.b d.result.difference (omega arith) e c.append-then-d.ensures)
+    rw c.if-same.false (difference_falls g.front c.append-then-d.result g.a g.b d.result.limb (omega arith) e c.append-then-d.ensures)
 
 pub returns : goal.returns
 unfolding bit
@@ -34,4 +34,4 @@ returns c =
     let g = c.args in
     let d = c.sub_borrow-d in
     let e = rw c.if-d.false at d.ensures in
-    rw c.if-same.false (difference_stays g.front c.append-2.result g.a g.b d.result.difference e c.append-2.ensures)
+    rw c.if-same.false (difference_stays g.front c.append-2.result g.a g.b d.result.limb e c.append-2.ensures)

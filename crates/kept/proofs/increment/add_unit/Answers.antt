@@ -34,7 +34,7 @@ loop-i-preserved c =
       search rules,
       simp length-set (omega arith),
       λ h. byte_le r.result.carry,
-      unit_turn (2 ^ 64) l.target l.i l.add _ r.result.sum _ c.loop-i-test.true
+      unit_turn (2 ^ 64) l.target l.i l.add _ r.result.limb _ c.loop-i-test.true
           (rw (bit_byte r.result.carry) at r.ensures) l.invariant.3,
     )
 

@@ -18,8 +18,8 @@ returns-then-s c =
     let r = c.add_carry-s in
     rw (c.if-not-up.false)
     (overflows (g.limb ∷ []) g.spare (omega arith) c.requires.0 (one_below g.limb c.ranges.limb.fits) c.requires.1
-    (r.result.sum ∷ []) (one_below r.result.sum (search rules))
-    (rw c.if-s.true at (one_added g.limb c.power.result r.result.sum g.spare r.result.carry c.power.ensures r.ensures)))
+    (r.result.limb ∷ []) (one_below r.result.limb (search rules))
+    (rw c.if-s.true at (one_added g.limb c.power.result r.result.limb g.spare r.result.carry c.power.ensures r.ensures)))
 
 pub returns : goal.returns
 returns c =
@@ -27,5 +27,5 @@ returns c =
     let r = c.add_carry-s in
     rw (c.if-not-up.false)
     (fits (g.limb ∷ []) g.spare (omega arith) c.requires.0 (one_below g.limb c.ranges.limb.fits) c.requires.1
-    (r.result.sum ∷ []) (one_below r.result.sum (search rules))
-    (rw c.if-s.false at (one_added g.limb c.power.result r.result.sum g.spare r.result.carry c.power.ensures r.ensures)))
+    (r.result.limb ∷ []) (one_below r.result.limb (search rules))
+    (rw c.if-s.false at (one_added g.limb c.power.result r.result.limb g.spare r.result.carry c.power.ensures r.ensures)))

@@ -21,5 +21,5 @@ pub returns : goal.returns
 returns c =
     let a = c.args in
     let s = c.add_carry-s in
-    let lt : s.result.sum < 2 ^ 64 = search rules in
-    (refl, sum_led a.p a.pair a.u c.requires.0 c.requires.1 a.low s.result.sum s.result.carry s.ensures lt, λ e. sum_settles a.p a.pair a.u c.requires.0 c.requires.1 a.low s.result.sum s.result.carry s.ensures lt _ (c.is_fixed.ensures e))
+    let lt : s.result.limb < 2 ^ 64 = search rules in
+    (refl, sum_led a.p a.pair a.u c.requires.0 c.requires.1 a.low s.result.limb s.result.carry s.ensures lt, λ e. sum_settles a.p a.pair a.u c.requires.0 c.requires.1 a.low s.result.limb s.result.carry s.ensures lt _ (c.is_fixed.ensures e))

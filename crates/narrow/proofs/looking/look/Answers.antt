@@ -45,4 +45,4 @@ returns c =
     let a = c.args in
     let first = rw (to_z-of_z (record { sfits = c.struct_told-1.given.1.1.1.0.1 })) at c.counted_exponent-a.ensures in
     let second = rw (to_z-of_z (record { sfits = c.struct_told-2-1.given.1.1.1.0.1 })) at c.counted_exponent-b.ensures in
-    looked a.mode a.p c.requires.4 c.requires.5 a.x a.xl.now a.y a.yl.now c.requires.0 c.requires.1 c.requires.2 c.requires.3 _ _ (top_limb a.xl.now) (top_limb a.yl.now) first second refl refl _ c.is_second_larger-swapped.ensures _ _ c.either-top.ensures c.either.ensures _ _ _ _ _ refl c.either-2.ensures c.either-3.ensures c.either-4.ensures c.either-5.ensures _ _ _ _ c.either_sign-larger.ensures c.see-seen.ensures c.either-6.ensures c.either-7.ensures
+    looked a.mode a.p c.requires.4 c.requires.5 a.x a.xl.now a.y a.yl.now c.requires.0 c.requires.1 c.requires.2 c.requires.3 _ _ (top_limb a.xl.now) (top_limb a.yl.now) first second refl refl _ c.is_second_larger-swapped.ensures _ _ c.either-top.ensures c.either.ensures _ _ _ _ _ refl c.either-2.ensures c.either-3.ensures c.either-4.ensures c.either-5.ensures _ _ _ _ c.either-larger.ensures c.see-seen.ensures c.either-6.ensures c.either-7.ensures

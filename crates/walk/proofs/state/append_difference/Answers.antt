@@ -11,7 +11,7 @@ returns-then-filled-eq0 c =
     let g = c.args in
     let d = c.sub_borrow-s in
     let p = c.lead in
-    difference_led g.w p.result g.a g.b g.target.now p.new.target d.result.difference d.result.borrow d.ensures p.ensures
+    difference_led g.w p.result g.a g.b g.target.now p.new.target d.result.limb d.result.carry d.ensures p.ensures
 
 pub returns-then-s : goal.returns-then-s
 unfolding bit
@@ -19,7 +19,7 @@ returns-then-s c =
     let g = c.args in
     let d = c.sub_borrow-s in
     let p = c.append in
-    difference_falls g.w p.result g.a g.b g.target.now p.new.target d.result.difference (λ i. (c.slice_known-1.given i).fits) (pos_of_ne-zero c.if-filled-eq0.false) (search rules)
+    difference_falls g.w p.result g.a g.b g.target.now p.new.target d.result.limb (λ i. (c.slice_known-1.given i).fits) (pos_of_ne-zero c.if-filled-eq0.false) (search rules)
     (rw c.if-s.true at d.ensures) p.ensures
 
 pub returns-else-s : goal.returns-else-s
@@ -28,5 +28,5 @@ returns-else-s c =
     let g = c.args in
     let d = c.sub_borrow-s in
     let p = c.append-else-s in
-    difference_stays g.w p.result g.a g.b g.target.now p.new.target d.result.difference (λ i. (c.slice_known-1.given i).fits) (pos_of_ne-zero c.if-filled-eq0.false)
+    difference_stays g.w p.result g.a g.b g.target.now p.new.target d.result.limb (λ i. (c.slice_known-1.given i).fits) (pos_of_ne-zero c.if-filled-eq0.false)
     (rw c.if-s.false at d.ensures) p.ensures

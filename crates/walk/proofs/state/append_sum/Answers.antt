@@ -9,7 +9,7 @@ returns-then-s c =
     let g = c.args in
     let s = c.add_carry-s in
     let p = c.append in
-    sum_rises g.w p.result g.a g.b g.target.now p.new.target s.result.sum (rw c.if-s.true at s.ensures) p.ensures
+    sum_rises g.w p.result g.a g.b g.target.now p.new.target s.result.limb (rw c.if-s.true at s.ensures) p.ensures
 
 pub returns-else-s : goal.returns-else-s
 unfolding bit
@@ -17,4 +17,4 @@ returns-else-s c =
     let g = c.args in
     let s = c.add_carry-s in
     let p = c.append-else-s in
-    sum_stays g.w p.result g.a g.b g.target.now p.new.target s.result.sum (rw c.if-s.false at s.ensures) p.ensures
+    sum_stays g.w p.result g.a g.b g.target.now p.new.target s.result.limb (rw c.if-s.false at s.ensures) p.ensures
