@@ -16,7 +16,7 @@ fn set_sum(target: &mut [u64], i: usize, x: u64, y: u64, carry: bool) -> bool
     ensures { LimbSum i x y carry target.old target.new result }
 {
     let s = limb::add_carry(x, y, carry);
-    target[i] = s.sum;
+    target[i] = s.limb;
     s.carry
 }
 
@@ -26,8 +26,8 @@ fn set_difference(target: &mut [u64], i: usize, x: u64, y: u64, borrow: bool) ->
     ensures { LimbDifference i x y borrow target.old target.new result }
 {
     let d = limb::sub_borrow(x, y, borrow);
-    target[i] = d.difference;
-    d.borrow
+    target[i] = d.limb;
+    d.carry
 }
 
 // Limb i of a + b with the carry of the limbs below. Returns the carry out.

@@ -12,8 +12,8 @@ pub fn sub_into(target: &mut [u64], operand: &[u64], borrow: bool) -> bool
     let mut i = 0;
     while i < target.len() {
         let d = limb::sub_borrow(target[i], limb_at(operand, i), up);
-        target[i] = d.difference;
-        up = d.borrow;
+        target[i] = d.limb;
+        up = d.carry;
         i += 1;
     }
     up
@@ -43,8 +43,8 @@ fn rsub_limb(target: &mut [u64], operand: &[u64], i: usize, borrow: bool) -> boo
     ensures { LimbReversed i target.old operand.now borrow target.new result }
 {
     let d = limb::sub_borrow(operand[i], target[i], borrow);
-    target[i] = d.difference;
-    d.borrow
+    target[i] = d.limb;
+    d.carry
 }
 
 // The difference of rsub_into with one limb a turn, which may pass the operand's end.
@@ -55,8 +55,8 @@ fn rsub_each(target: &mut [u64], operand: &[u64], borrow: bool) -> bool
     let mut i = 0;
     while i < target.len() {
         let d = limb::sub_borrow(limb_at(operand, i), target[i], up);
-        target[i] = d.difference;
-        up = d.borrow;
+        target[i] = d.limb;
+        up = d.carry;
         i += 1;
     }
     up

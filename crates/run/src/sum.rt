@@ -15,7 +15,7 @@ fn add_limb(target: &mut [u64], operand: &[u64], i: usize, carry: bool) -> bool
     ensures { LimbsAdded i (i + 1) target.old operand.now carry target.new result }
 {
     let s = limb::add_carry(target[i], operand[i], carry);
-    target[i] = s.sum;
+    target[i] = s.limb;
     s.carry
 }
 
@@ -38,7 +38,7 @@ fn add_each(target: &mut [u64], operand: &[u64], carry: bool) -> bool
     let mut i = 0;
     while i < target.len() {
         let s = limb::add_carry(target[i], limb_at(operand, i), up);
-        target[i] = s.sum;
+        target[i] = s.limb;
         up = s.carry;
         i += 1;
     }
