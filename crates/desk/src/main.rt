@@ -11,14 +11,8 @@ const PIECE_ROOM: usize = 65536;
 // The room for what is printed for a piece.
 const OUT_ROOM: usize = 65536;
 
-// What is held, and whether nothing more can be taken.
-#[derive(Clone, Copy)]
-struct Standing {
-    held: Held,
-    closed: bool,
-}
-
-// Serves a piece of the input, and writes what is printed whenever there may be no room for more.
+// Serves a piece of the input, and writes what is printed whenever there may be no room for more. What is held then;
+// nothing where no more can be taken.
 fn serve_piece<W: Write>(
     held: Held,
     piece: &[u8],
@@ -27,26 +21,19 @@ fn serve_piece<W: Write>(
     third: &mut [u8],
     out: &mut [u8],
     output: &mut W,
-) -> io::Result<Standing> {
-    let mut h = held;
-    let mut at: usize = 0;
-    while at < piece.len() {
-        let s = stream::serve(h, &piece[at..], first, second, third, out);
-        let told = s.told;
-        output.write_all(&out[0..told])?;
-        if s.taken == 0 {
-            return Ok(Standing {
-                held: h,
-                closed: true,
-            });
+) -> io::Result<Option<Held>> {
+    let mut held = held;
+    let mut rest = piece;
+    while !rest.is_empty() {
+        let served = stream::serve(held, rest, first, second, third, out);
+        output.write_all(&out[..served.told])?;
+        if served.taken == 0 {
+            return Ok(None);
         }
-        h = s.held;
-        at += s.taken;
+        held = served.held;
+        rest = &rest[served.taken..];
     }
-    Ok(Standing {
-        held: h,
-        closed: false,
-    })
+    Ok(Some(held))
 }
 
 // The end of the input.
@@ -59,7 +46,7 @@ fn finish<W: Write>(
     output: &mut W,
 ) -> io::Result<()> {
     let told = stream::finish(held, first, second, third, out);
-    output.write_all(&out[0..told])
+    output.write_all(&out[..told])
 }
 
 // Piece after piece, to the end of the input or to the first write that fails. A read that fails ends the input.
@@ -71,26 +58,23 @@ fn run<R: Read, W: Write>(input: &mut R, output: &mut W) -> io::Result<()> {
     let mut out = [0u8; OUT_ROOM];
     let mut held = cutting::start();
     for _ in 0..u64::MAX {
-        let got = match input.read(&mut piece) {
-            Ok(got) => got,
-            Err(_) => break,
-        };
+        let got = input.read(&mut piece).unwrap_or(0);
         if got == 0 {
             break;
         }
-        let standing = serve_piece(
+        let Some(after) = serve_piece(
             held,
-            &piece[0..got],
+            &piece[..got],
             &mut first,
             &mut second,
             &mut third,
             &mut out,
             output,
-        )?;
-        if standing.closed {
+        )?
+        else {
             return Ok(());
-        }
-        held = standing.held;
+        };
+        held = after;
     }
     finish(held, &first, &second, &third, &mut out, output)
 }

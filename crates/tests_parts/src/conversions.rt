@@ -1,9 +1,10 @@
 // Conversions of numbers to doubles and back. A double stands by its bits.
-ghost use Rattle.std.specs.Prelude.{◌≤◌};
-
-use crate::answers::{put_refusal, read};
-use checks::{Number, Refusal};
+use crate::answers::put_read;
+use checks::Refusal;
 use doubles::{Converted, Enclosed};
+use std::io;
+use std::io::Write;
+use vectors::{Fields, LIMB_ROOM, RefusalFields};
 
 // The pattern of +infinity; above it, the sign's bit apart, stand those of NaNs.
 const INFINITY: u64 = 9218868437227405312;
@@ -27,87 +28,72 @@ fn double_of(bits: u64) -> f64 {
     f64::from_bits(bits)
 }
 
-fn told(out: &mut [u8; 4096], refusal: Refusal, case: u64, bits: u64) -> usize
-    ensures { result ≤ 4096 }
-{
-    let a = put_refusal(out, refusal);
-    let b = vectors::put_byte(out, a, case);
-    let c = vectors::put_word(out, b, bits);
-    vectors::put_end(out, c)
+// What is asked: 0 a number to a double, 2 a double to a number, any other the pair of doubles around a number.
+#[derive(Clone, Copy)]
+enum Conversion {
+    ToDouble,
+    Enclosing,
+    FromDouble,
+}
+
+impl From<u8> for Conversion {
+    fn from(number: u8) -> Conversion {
+        match number {
+            0 => Conversion::ToDouble,
+            2 => Conversion::FromDouble,
+            _ => Conversion::Enclosing,
+        }
+    }
 }
 
 // Case 0 is exact, 1 below, 2 above, 3 refused.
-fn converted(c: Converted, out: &mut [u8; 4096]) -> usize
-    ensures { result ≤ 4096 }
-{
+fn put_converted(converted: Converted, answer: &mut Vec<u8>) -> io::Result<()> {
     let none = Refusal { rule: 0, place: 0 };
-    match c {
-        Converted::Exact(d) => told(out, none, 0, bits_of(d)),
-        Converted::Below(d) => told(out, none, 1, bits_of(d)),
-        Converted::Above(d) => told(out, none, 2, bits_of(d)),
-        Converted::Refused(r) => told(out, r, 3, 0),
+    let (refusal, case, bits) = match converted {
+        Converted::Exact(d) => (none, 0u8, bits_of(d)),
+        Converted::Below(d) => (none, 1, bits_of(d)),
+        Converted::Above(d) => (none, 2, bits_of(d)),
+        Converted::Refused(refusal) => (refusal, 3, 0),
+    };
+    let refusal = RefusalFields(refusal);
+    writeln!(answer, "{refusal}{case:02x}{bits:016x}")
+}
+
+fn put_enclosed(enclosed: Enclosed, answer: &mut Vec<u8>) -> io::Result<()> {
+    let refusal = RefusalFields(enclosed.refusal);
+    let lower = bits_of(enclosed.pair.lower);
+    let upper = bits_of(enclosed.pair.upper);
+    writeln!(answer, "{refusal}{lower:016x}{upper:016x}")
+}
+
+// Mode (2) and a number.
+fn run_number(conversion: Conversion, mut fields: Fields, answer: &mut Vec<u8>) -> io::Result<()> {
+    let mut room = [0u64; LIMB_ROOM];
+    let mode = fields.byte();
+    let x = fields.number();
+    let xl = fields.limbs(&mut room);
+    match conversion {
+        Conversion::ToDouble => put_converted(doubles::to_double(mode, x, xl), answer),
+        _ => put_enclosed(doubles::enclose(x, xl), answer),
     }
 }
 
-fn enclosed(e: Enclosed, out: &mut [u8; 4096]) -> usize
-    ensures { result ≤ 4096 }
-{
-    let pair = e.pair;
-    let a = put_refusal(out, e.refusal);
-    let b = vectors::put_word(out, a, bits_of(pair.lower));
-    let c = vectors::put_word(out, b, bits_of(pair.upper));
-    vectors::put_end(out, c)
+// A double (16), target limb count (4), fill (2); no answer where the target has not so many limbs.
+fn run_double(mut fields: Fields, answer: &mut Vec<u8>) -> io::Result<()> {
+    let double = double_of(fields.word());
+    let count = usize::from(fields.pair());
+    let mut room = vectors::filled(fields.byte());
+    let Some(target) = room.get_mut(..count) else {
+        return Ok(());
+    };
+    let read = unpack::from_double(double, target);
+    put_read(read.refusal, read.number, target, answer)
 }
 
-// Operation 0 converts under the mode; any other encloses.
-fn run_number(
-    operation: u64,
-    mode: u8,
-    x: Number,
-    xl: &[u64; 80],
-    n: usize,
-    out: &mut [u8; 4096],
-) -> usize
-    requires { n ≤ 80 }
-    ensures { result ≤ 4096 }
-{
-    let xs = &xl[..];
-    if operation == 0 {
-        return converted(doubles::to_double(mode, x, &xs[0..n]), out);
+// What is asked (2), and then its fields.
+pub fn run_case(mut fields: Fields, answer: &mut Vec<u8>) -> io::Result<()> {
+    match Conversion::from(fields.byte()) {
+        Conversion::FromDouble => run_double(fields, answer),
+        conversion => run_number(conversion, fields, answer),
     }
-    enclosed(doubles::enclose(x, &xs[0..n]), out)
-}
-
-fn run_double(bits: u64, target: &mut [u64], out: &mut [u8; 4096]) -> usize
-    ensures { result ≤ 4096 }
-{
-    let f = unpack::from_double(double_of(bits), target);
-    read(f.refusal, f.number, target, out)
-}
-
-// The same with the first k limbs of the target; no answer where there are not so many.
-fn run_part(bits: u64, target: &mut [u64], k: usize, out: &mut [u8; 4096]) -> usize
-    ensures { result ≤ 4096 }
-{
-    if target.len() < k {
-        return 0;
-    }
-    run_double(bits, &mut target[0..k], out)
-}
-
-// After the operation, 2 digits: mode (2) and a number; or for operation 2 a double (16), target limb count (4), fill (2).
-pub fn run_case(line: &[u8], out: &mut [u8; 4096]) -> usize
-    ensures { result ≤ 4096 }
-{
-    let operation = vectors::byte_at(line, 0);
-    if operation == 2 {
-        let mut target = vectors::filled(vectors::byte_at(line, 22));
-        let k = vectors::pair_at(line, 18) as usize;
-        return run_part(vectors::word_at(line, 2), &mut target, k, out);
-    }
-    let mut xl = [0u64; 80];
-    let mode = (vectors::byte_at(line, 2) % 256) as u8;
-    let x = vectors::number_at(line, 4);
-    let n = vectors::limbs_at(line, 32, &mut xl);
-    run_number(operation, mode, x, &xl, n, out)
 }

@@ -1,24 +1,15 @@
 // Stored lines, written and read.
-ghost use Rattle.std.specs.Prelude.{◌≤◌, ◌≡◌, length};
+use crate::answers::put_read;
+use lines::Head;
+use std::io;
+use std::io::Write;
+use vectors::{Fields, LIMB_ROOM, RefusalFields, put_all};
 
-use crate::answers::{put_refusal, read};
-use checks::Number;
-use lines::{Head, Written};
+// The most bytes that a line is written into, or read from.
+const ROOM: usize = 2048;
 
-fn written(w: Written, room: &[u8], out: &mut [u8; 4096]) -> usize
-    ensures { result ≤ 4096 }
-{
-    let a = put_refusal(out, w.refusal);
-    let b = vectors::put_pair(out, a, w.count as u64);
-    let c = vectors::put_bytes(out, b, room);
-    vectors::put_end(out, c)
-}
-
-fn same_number(a: Number, b: Number) -> bool {
-    let zeros = checks::is_zero(a) == checks::is_zero(b);
-    let signs = a.negative == b.negative;
-    zeros & signs & (a.precision == b.precision) & (a.exponent == b.exponent)
-}
+// An answer of more bytes loses what is over.
+const ANSWER_ROOM: usize = 4096;
 
 // Whether the head alone is what it must be beside the answer of the whole line: the same, or accepted where the limbs are refused.
 fn head_agrees(line: &[u8], whole: Head) -> bool {
@@ -28,118 +19,50 @@ fn head_agrees(line: &[u8], whole: Head) -> bool {
     if (given.rule == 3) | (given.rule == 5) {
         return told.rule == 0;
     }
-    let numbers = same_number(head.number, whole.number);
-    numbers & (told.rule == given.rule) & (told.place == given.place)
+    (head.number == whole.number) & (told.rule == given.rule) & (told.place == given.place)
 }
 
-fn run_write(x: Number, limbs: &[u64], room: &mut [u8], out: &mut [u8; 4096]) -> usize
-    ensures { result ≤ 4096 }
-{
-    let w = writer::write_line(x, limbs, room);
-    written(w, room, out)
+// Room in bytes (4), or all where there are not so many, fill (2), a number. The answer has the whole room.
+fn run_write(mut fields: Fields, answer: &mut Vec<u8>) -> io::Result<()> {
+    let mut x_room = [0u64; LIMB_ROOM];
+    let count = usize::from(fields.pair()).min(ROOM);
+    let mut room = [fields.byte(); ROOM];
+    let room = &mut room[..count];
+    let x = fields.number();
+    let xl = fields.limbs(&mut x_room);
+    let written = writer::write_line(x, xl, room);
+    let refusal = RefusalFields(written.refusal);
+    let size = written.count;
+    write!(answer, "{refusal}{size:04x}")?;
+    put_all(answer, room, 2)?;
+    writeln!(answer)?;
+    answer.truncate(ANSWER_ROOM);
+    Ok(())
 }
 
-// Prints nothing where the head alone does not agree.
-fn run_read(line: &[u8], target: &mut [u64], out: &mut [u8; 4096]) -> usize
-    ensures { result ≤ 4096 }
-{
-    let h = reader::read_line(line, target);
-    if !head_agrees(line, h) {
-        return 0;
+// Target limb count (4), or all where there are not so many, fill (2), length (4) and bytes of the line. Prints nothing
+// where the head alone does not agree.
+fn run_read(mut fields: Fields, answer: &mut Vec<u8>) -> io::Result<()> {
+    let count = usize::from(fields.pair()).min(LIMB_ROOM);
+    let mut room = vectors::filled(fields.byte());
+    let target = &mut room[..count];
+    let mut stored = [0u8; ROOM];
+    let size = usize::from(fields.pair()).min(ROOM);
+    let line = &mut stored[..size];
+    for byte in &mut *line {
+        *byte = fields.byte();
     }
-    read(h.refusal, h.number, target, out)
-}
-
-// Bytes that are lent: the first k, or all where there are not so many.
-fn at_most(k: u64, n: usize) -> usize
-    ensures { result ≤ n }
-{
-    if k < n as u64 {
-        return k as usize;
+    let read = reader::read_line(line, target);
+    if !head_agrees(line, read) {
+        return Ok(());
     }
-    n
+    put_read(read.refusal, read.number, target, answer)
 }
 
-fn write_part(
-    x: Number,
-    xl: &[u64; 80],
-    n: usize,
-    room: &mut [u8],
-    k: u64,
-    out: &mut [u8; 4096],
-) -> usize
-    requires { n ≤ 80 }
-    ensures { result ≤ 4096 }
-{
-    let xs = &xl[..];
-    let end = at_most(k, room.len());
-    run_write(x, &xs[0..n], &mut room[0..end], out)
-}
-
-fn read_part(
-    stored: &[u8; 2048],
-    n: usize,
-    target: &mut [u64],
-    k: u64,
-    out: &mut [u8; 4096],
-) -> usize
-    requires { n ≤ 2048 }
-    ensures { result ≤ 4096 }
-{
-    let bytes = &stored[..];
-    let end = at_most(k, target.len());
-    run_read(&bytes[0..n], &mut target[0..end], out)
-}
-
-// 2,048 bytes, all the same. The `ensures` gives the length, which lending them as a slice needs.
-fn filled(byte: u64) -> [u8; 2048]
-    ensures { 2048 ≡ length result }
-{
-    let b = (byte % 256) as u8;
-    [b; 2048]
-}
-
-// The bytes of a line that is asked about, two digits each; how many.
-fn bytes_at(line: &[u8], at: usize, n: u64, out: &mut [u8; 2048]) -> usize
-    ensures { result ≤ 2048 }
-{
-    let end = at_most(n, 2048);
-    let mut place = at;
-    let mut i: usize = 0;
-    while i < end {
-        out[i] = vectors::byte_at(line, place) as u8;
-        place = vectors::place_after(place, 2);
-        i += 1;
+// Operation 0 writes, any other reads.
+pub fn run_case(mut fields: Fields, answer: &mut Vec<u8>) -> io::Result<()> {
+    if fields.byte() == 0 {
+        return run_write(fields, answer);
     }
-    end
-}
-
-// Operation 0: room in bytes (4), fill (2), a number.
-fn write_case(line: &[u8], out: &mut [u8; 4096]) -> usize
-    ensures { result ≤ 4096 }
-{
-    let mut xl = [0u64; 80];
-    let mut room = filled(vectors::byte_at(line, 6));
-    let x = vectors::number_at(line, 8);
-    let n = vectors::limbs_at(line, 36, &mut xl);
-    write_part(x, &xl, n, &mut room, vectors::pair_at(line, 2), out)
-}
-
-// Operation 1: target limb count (4), fill (2), length (4) and bytes of the line.
-fn read_case(line: &[u8], out: &mut [u8; 4096]) -> usize
-    ensures { result ≤ 4096 }
-{
-    let mut stored = [0u8; 2048];
-    let mut target = vectors::filled(vectors::byte_at(line, 6));
-    let n = bytes_at(line, 12, vectors::pair_at(line, 8), &mut stored);
-    read_part(&stored, n, &mut target, vectors::pair_at(line, 2), out)
-}
-
-pub fn run_case(line: &[u8], out: &mut [u8; 4096]) -> usize
-    ensures { result ≤ 4096 }
-{
-    if vectors::byte_at(line, 0) == 0 {
-        return write_case(line, out);
-    }
-    read_case(line, out)
+    run_read(fields, answer)
 }

@@ -1,64 +1,44 @@
--- What the tests of the code say of the definitions of fields. Assumes nothing.
-use mathlib.Core.Path.{◌≡◌}
-use Prim.Native.Nat.{ℕ, ◌+◌, ◌*◌, ◌-◌, ◌%◌, ◌<◌, ◌≤◌}
+-- Fields of a line, digit by digit. Assumes nothing.
+use mathlib.Core.Path.{◌≡◌, refl, ◌∙◌}
+use Prim.Native.Nat.{ℕ, suc, ◌+◌, ◌*◌, ◌^◌, ◌<◌}
 use native.Mathlib.Omega.{arith}
 use mathlib.Core.List.{List}
 use lib.Dec.{eqb}
 use lib.IntN.{ℤ}
-use lib.ListN.{length, get_or-eq_default}
-use borrow.Author.Tests.{lt-ltb, le-ltb, eq-eqb, ne_eqb}
+use lib.ListN.{get_or, drop}
+use lib.Seq.{drop-drop}
+use Rattle.std.proofs.Math.Nat.{pow-le-pow_right}
+use Rattle.std.proofs.lemmas.Grind.{pow_more}
 use Rattle.checks.specs.declared.Number.{Number}
 use Rattle.checks.specs.declared.Kind.{Kind}
-use Rattle.checks.specs.declared.Kind.TheVariants.{Regular, Zero}
 use Rattle.checks.specs.Number.{exponent_of}
-use Rattle.vectors.specs.Fields.{place_after, digit_of, digit_at, byte_at, quad_at, word_at, kind_of, counted_from, number_at}
+use Rattle.vectors.specs.Fields.{digit_of, field_of, kind_of, counted_from, number_of}
 
-module _ (b : ℕ) where
-  pub below : b < 48 → 0 ≡ digit_of b
-  unfolding digit_of
-  below h = rw (lt-ltb b 48 h)
+-- a digit more
+pub field_longer : (l : List ℕ) (n : ℕ) → field_of n l * 16 + digit_of (get_or l n 0) ≡ field_of (n + 1) l
+unfolding field_of
+field_longer l n =
+    let e : n + 1 ≡ suc n = omega arith in
+    rw e refl
 
-  pub decimal : 48 ≤ b → b < 58 → b - 48 ≡ digit_of b
-  unfolding digit_of
-  decimal g h = rw (le-ltb b 48 g, lt-ltb b 58 h)
+-- a digit more in what n + 1 digits hold
+pub digit_fits : (n v d : ℕ) → v < 16 ^ n → d < 16 → v * 16 + d < 16 ^ (n + 1)
+digit_fits n v d h g = rw (pow_more 16 n) (omega (arith, h, g))
 
-  pub between : 58 ≤ b → b < 97 → 0 ≡ digit_of b
-  unfolding digit_of
-  between g h = rw (le-ltb b 48 (omega arith), le-ltb b 58 g, lt-ltb b 97 h)
+-- up to fifteen digits leave room for one more in 64 bits
+pub word_fits : (n v : ℕ) → n < 16 → v < 16 ^ n → v < 1152921504606846976
+word_fits n v h g = omega (arith, g, pow-le-pow_right {n = 16} (omega arith) {i = n} {j = 15} (omega arith))
 
-  pub letter : 97 ≤ b → b < 103 → b - 87 ≡ digit_of b
-  unfolding digit_of
-  letter g h = rw (le-ltb b 48 (omega arith), le-ltb b 58 (omega arith), le-ltb b 97 g, lt-ltb b 103 h)
+-- what is left after one, two, three and four fields of a number
+pub second_rest : (l a b : List ℕ) → a ≡ drop 2 l → b ≡ drop 2 a → b ≡ drop 4 l
+second_rest l a b g h = h ∙ rw g (drop-drop 2 2 l)
 
-  pub above : 103 ≤ b → 0 ≡ digit_of b
-  unfolding digit_of
-  above g = rw (le-ltb b 48 (omega arith), le-ltb b 58 (omega arith), le-ltb b 97 (omega arith), le-ltb b 103 g)
+pub third_rest : (l b c : List ℕ) → b ≡ drop 4 l → c ≡ drop 16 b → c ≡ drop 20 l
+third_rest l b c g h = h ∙ rw g (drop-drop 16 4 l)
 
-  pub counted_low : b % 4294967296 < 2147483648 → b % 4294967296 + 1099511627776 ≡ counted_from b
-  unfolding counted_from
-  counted_low h = rw (lt-ltb (b % 4294967296) 2147483648 h)
+pub fourth_rest : (l c d : List ℕ) → c ≡ drop 20 l → d ≡ drop 8 c → d ≡ drop 28 l
+fourth_rest l c d g h = h ∙ rw g (drop-drop 8 20 l)
 
-  pub counted_high : 2147483648 ≤ b % 4294967296 → b % 4294967296 + 1095216660480 ≡ counted_from b
-  unfolding counted_from
-  counted_high h = rw (le-ltb (b % 4294967296) 2147483648 h)
-
-  pub regular_kind : b ≡ 0 → Regular ≡ kind_of b
-  unfolding kind_of
-  regular_kind h = rw (eq-eqb b 0 h)
-
-  pub zero_kind : (b ≡ 0 → ⊥) → Zero ≡ kind_of b
-  unfolding kind_of
-  zero_kind h = rw (ne_eqb b 0 h)
-
--- the higher half, and the lower at a place further on
-pub joined : (f : ℕ → ℕ) (at more weight a place b : ℕ) → a ≡ f at → place ≡ place_after at more → b ≡ f place → a * weight + b ≡ f at * weight + f (place_after at more)
-joined f at more weight a place b h p l = rw (h, l, p)
-
--- past the end of a line
-pub past : (l : List ℕ) (at : ℕ) → length l ≤ at → 0 ≡ digit_at l at
-unfolding digit_at digit_of
-past l at h = rw (get_or-eq_default l 0 h)
-
-pub numbered : (l : List ℕ) (at s p b q w r v : ℕ) (k : Kind) (e : ℤ) → s ≡ byte_at l at → p ≡ place_after at 2 → b ≡ byte_at l p → k ≡ kind_of b → q ≡ place_after at 4 → w ≡ word_at l q → r ≡ place_after at 20 → v ≡ quad_at l r → e ≡ exponent_of (counted_from v) → ◌≡◌ {A = Number} (record { negative = eqb s 1; kind = k; precision = w; exponent = e }) (number_at l at)
-unfolding number_at
-numbered l at s p b q w r v k e h1 h2 h3 h4 h5 h6 h7 h8 h9 = rw (h9, h8, h7, h6, h5, h4, h3, h2, h1)
+pub numbered : (l a b c : List ℕ) (s k w v n : ℕ) (kind : Kind) (e : ℤ) → s ≡ field_of 2 l → a ≡ drop 2 l → k ≡ field_of 2 a → kind ≡ kind_of k → b ≡ drop 4 l → w ≡ field_of 16 b → c ≡ drop 20 l → v ≡ field_of 8 c → n ≡ counted_from v → e ≡ exponent_of n → ◌≡◌ {A = Number} (record { negative = eqb s 1; kind = kind; precision = w; exponent = e }) (number_of l)
+unfolding number_of
+numbered l a b c s k w v n kind e h1 h2 h3 h4 h5 h6 h7 h8 h9 h10 = rw (h10, h9, h8, h7, h6, h5, h4, h3, h2, h1) refl

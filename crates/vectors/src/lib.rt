@@ -1,14 +1,12 @@
-// What test programs share: lines cut from the input, fields read from a line, fields written.
+// What test programs share: lines of the input answered one by one, fields read from a line, fields printed.
 //
 // Fields stand in lowercase hexadecimal, each of a fixed number of digits, with nothing between them.
 #![tactic(auto)]
 
-mod cutting;
-mod reading;
-mod writing;
+mod answering; // answering.rt: an answer for each line
+mod printing; // printing.rt: fields of an answer
+mod reading; // reading.rt: fields of a line
 
-pub use cutting::{Cutter, cut, start};
-pub use reading::{byte_at, filled, limbs_at, number_at, pair_at, place_after, quad_at, word_at};
-pub use writing::{
-    put_byte, put_bytes, put_end, put_limbs, put_number, put_pair, put_quad, put_word,
-};
+pub use answering::answer_lines;
+pub use printing::{NumberFields, RefusalFields, put_all};
+pub use reading::{Fields, LIMB_ROOM, filled};

@@ -1,145 +1,142 @@
 // Fields of a line. Past the line's end, and for a byte that is no digit, stands the digit 0.
-ghost use Rattle.std.specs.Prelude.{◌≡◌, ◌≤◌, ◌<◌, length};
+ghost use Rattle.std.specs.Prelude.{◌≡◌, ◌≤◌, ◌<◌, ◌^◌, length, drop, get_or};
 ghost use Rattle.checks.specs.Number.{exponent_of};
-ghost use Rattle.vectors.specs.Fields.{place_after, digit_of, digit_at, byte_at, pair_at, quad_at, word_at, kind_of, counted_from, number_at};
+ghost use Rattle.vectors.specs.Fields.{digit_of, field_of, kind_of, counted_from, number_of};
 
 use checks::{Kind, Number};
 
-// A place further on in a line, or the last that can be counted.
-pub fn place_after(at: usize, more: usize) -> usize
-    ensures { result ≡ place_after at more }
-{
-    if 18446744073709551615 - more < at {
-        return 18446744073709551615;
-    }
-    at + more
-}
+// The most limbs that a number of a line has.
+pub const LIMB_ROOM: usize = 80;
 
+#[tactic(auto, unfolding(crate::specs::Fields::digit_of))]
 fn digit(b: u8) -> u64
     ensures { (result ≡ digit_of b) × (result < 16) }
 {
     match b {
-        48..=57 => (b - 48) as u64,
-        97..=102 => (b - 87) as u64,
+        b'0'..=b'9' => (b - b'0') as u64,
+        b'a'..=b'f' => (b - b'a' + 10) as u64,
         _ => 0,
     }
 }
 
 fn digit_at(line: &[u8], at: usize) -> u64
-    ensures { (result ≡ digit_at line.now at) × (result < 16) }
+    ensures { (result ≡ digit_of (get_or line.now at 0)) × (result < 16) }
 {
-    if at < line.len() {
-        return digit(line[at]);
-    }
-    0
+    digit(line.get(at).copied().unwrap_or(0))
 }
 
-// Two digits.
-pub fn byte_at(line: &[u8], at: usize) -> u64
-    ensures { (result ≡ byte_at line.now at) × (result < 256) }
-{
-    let high = digit_at(line, at);
-    let low = digit_at(line, place_after(at, 1));
-    high * 16 + low
-}
-
-// Four digits.
-pub fn pair_at(line: &[u8], at: usize) -> u64
-    ensures { (result ≡ pair_at line.now at) × (result < 65536) }
-{
-    let high = byte_at(line, at);
-    let low = byte_at(line, place_after(at, 2));
-    high * 256 + low
-}
-
-// Eight digits.
-pub fn quad_at(line: &[u8], at: usize) -> u64
-    ensures { (result ≡ quad_at line.now at) × (result < 4294967296) }
-{
-    let high = pair_at(line, at);
-    let low = pair_at(line, place_after(at, 4));
-    high * 65536 + low
-}
-
-// Sixteen digits.
-pub fn word_at(line: &[u8], at: usize) -> u64
-    ensures { result ≡ word_at line.now at }
-{
-    let high = quad_at(line, at);
-    let low = quad_at(line, place_after(at, 8));
-    high * 4294967296 + low
-}
-
-fn kind_of(k: u64) -> Kind
+#[tactic(auto, unfolding(crate::specs::Fields::kind_of))]
+fn kind_of(k: u8) -> Kind
     ensures { result ≡ kind_of k }
 {
-    if k == 0 {
-        return Kind::Regular;
-    }
-    Kind::Zero
+    if k == 0 { Kind::Regular } else { Kind::Zero }
 }
 
 // 32 bits in two's complement, counted as exponents are.
-fn counted_from(bits: u64) -> u64
+#[tactic(auto, unfolding(crate::specs::Fields::counted_from))]
+fn counted_from(bits: u32) -> u64
     ensures { result ≡ counted_from bits }
 {
-    let low = bits % 4294967296;
+    let low = bits as u64;
     if low < 2147483648 {
         return low + 1099511627776;
     }
     low + 1095216660480
 }
 
-fn signed(bits: u64) -> i32
-    ensures { result ≡ exponent_of (counted_from bits) }
-{
-    checks::exponent_of(counted_from(bits))
+// The fields of a line that are still to be read.
+#[derive(Clone, Copy)]
+pub struct Fields<'a> {
+    pub rest: &'a [u8],
 }
 
-// A number without its limbs, 28 digits: sign (2), kind (2), precision (16), exponent (8).
-pub fn number_at(line: &[u8], at: usize) -> Number
-    ensures { result ≡ number_at line.now at }
-{
-    let sign = byte_at(line, at);
-    let kind = kind_of(byte_at(line, place_after(at, 2)));
-    let precision = word_at(line, place_after(at, 4));
-    let exponent = signed(quad_at(line, place_after(at, 20)));
-    Number {
-        negative: sign == 1,
-        kind: kind,
-        precision: precision,
-        exponent: exponent,
+impl<'a> Fields<'a> {
+    // The next field of so many digits.
+    fn field(&mut self, digits: usize) -> u64
+        requires { digits ≤ 16 }
+        ensures value { result ≡ field_of digits self.old.rest.now }
+        ensures fits { result < 16 ^ digits }
+        ensures rest { self.new.rest.now ≡ drop digits self.old.rest.now }
+    {
+        let mut value = 0;
+        for i in 0..digits {
+            value = value * 16 + digit_at(self.rest, i);
+        }
+        self.skip(digits);
+        value
+    }
+
+    // Passes over so many digits.
+    pub fn skip(&mut self, digits: usize)
+        ensures { self.new.rest.now ≡ drop digits self.old.rest.now }
+    {
+        self.rest = self.rest.get(digits..).unwrap_or(&[]);
+    }
+
+    // Two digits.
+    pub fn byte(&mut self) -> u8
+        ensures value { result ≡ field_of 2 self.old.rest.now }
+        ensures rest { self.new.rest.now ≡ drop 2 self.old.rest.now }
+    {
+        self.field(2) as u8
+    }
+
+    // Four digits.
+    pub fn pair(&mut self) -> u16
+        ensures value { result ≡ field_of 4 self.old.rest.now }
+        ensures rest { self.new.rest.now ≡ drop 4 self.old.rest.now }
+    {
+        self.field(4) as u16
+    }
+
+    // Eight digits.
+    pub fn quad(&mut self) -> u32
+        ensures value { result ≡ field_of 8 self.old.rest.now }
+        ensures rest { self.new.rest.now ≡ drop 8 self.old.rest.now }
+    {
+        self.field(8) as u32
+    }
+
+    // Sixteen digits.
+    pub fn word(&mut self) -> u64
+        ensures value { result ≡ field_of 16 self.old.rest.now }
+        ensures rest { self.new.rest.now ≡ drop 16 self.old.rest.now }
+    {
+        self.field(16)
+    }
+
+    // A number without its limbs, 28 digits: sign (2), kind (2), precision (16), exponent (8).
+    pub fn number(&mut self) -> Number
+        ensures value { result ≡ number_of self.old.rest.now }
+        ensures rest { self.new.rest.now ≡ drop 28 self.old.rest.now }
+    {
+        let sign = self.byte();
+        let kind = kind_of(self.byte());
+        let precision = self.word();
+        let exponent = checks::exponent_of(counted_from(self.quad()));
+        Number {
+            negative: sign == 1,
+            kind,
+            precision,
+            exponent,
+        }
+    }
+
+    // A count of limbs (4 digits) and then the limbs, lowest first, as far as there is room.
+    pub fn limbs<'r>(&mut self, room: &'r mut [u64; LIMB_ROOM]) -> &'r [u64]
+        ensures { length result.now ≤ 80 }
+    {
+        let n = usize::from(self.pair()).min(LIMB_ROOM);
+        for limb in &mut room[..n] {
+            *limb = self.word();
+        }
+        &room[..n]
     }
 }
 
-fn at_most_80(n: u64) -> usize
-    ensures { result ≤ 80 }
-{
-    if n < 80 {
-        return n as usize;
-    }
-    80
-}
-
-// A count of limbs (4 digits) and then the limbs, lowest first; the count, or 80 where it is more.
-pub fn limbs_at(line: &[u8], at: usize, out: &mut [u64; 80]) -> usize
-    ensures { result ≤ 80 }
-{
-    let n = at_most_80(pair_at(line, at));
-    let mut place = place_after(at, 4);
-    let mut i: usize = 0;
-    while i < n {
-        out[i] = word_at(line, place);
-        place = place_after(place, 16);
-        i += 1;
-    }
-    n
-}
-
-// 80 limbs, each eight times the same byte. The `ensures` gives the length, which lending them as a slice needs.
-pub fn filled(byte: u64) -> [u64; 80]
+// So many limbs, each eight times the same byte.
+pub fn filled(byte: u8) -> [u64; LIMB_ROOM]
     ensures { 80 ≡ length result }
 {
-    let word = (byte % 256) * 72340172838076673;
-    [word; 80]
+    [u64::from_ne_bytes([byte; 8]); LIMB_ROOM]
 }

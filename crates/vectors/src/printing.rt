@@ -1,0 +1,45 @@
+// Fields of an answer, each in so many digits.
+use checks::{Number, Refusal};
+use std::io::Write;
+use std::{fmt, io};
+
+// A refusal's rule and place, with which each answer begins.
+#[derive(Clone, Copy)]
+pub struct RefusalFields(pub Refusal);
+
+impl fmt::Display for RefusalFields {
+    fn fmt<W: fmt::Write>(&self, f: &mut fmt::Formatter<W>) -> fmt::Result {
+        let Refusal { rule, place } = self.0;
+        write!(f, "{rule:02x}{place:02x}")
+    }
+}
+
+// A number without its limbs, as `Fields::number` reads it. The exponent stands in two's complement.
+#[derive(Clone, Copy)]
+pub struct NumberFields(pub Number);
+
+impl fmt::Display for NumberFields {
+    fn fmt<W: fmt::Write>(&self, f: &mut fmt::Formatter<W>) -> fmt::Result {
+        let Number {
+            negative,
+            kind,
+            precision,
+            exponent,
+        } = self.0;
+        let sign = negative as u8;
+        let kind = kind as u8;
+        write!(f, "{sign:02x}{kind:02x}{precision:016x}{exponent:08x}")
+    }
+}
+
+// All of a run, the first one first, in so many digits each, without their count.
+pub fn put_all<T: fmt::LowerHex + fmt::Radix + Copy, W: Write>(
+    out: &mut W,
+    items: &[T],
+    digits: usize,
+) -> io::Result<()> {
+    for item in items {
+        write!(out, "{item:0digits$x}")?;
+    }
+    Ok(())
+}
