@@ -1,4 +1,6 @@
 // Lines from an input, and an answer for each.
+ghost use Rattle.std.specs.Prelude.{◌≤◌, length};
+
 use std::alloc::Global;
 use std::io;
 use std::io::{BufRead, BufReader, Read, Write};
@@ -19,7 +21,7 @@ pub fn answer_lines<R: Read + Drop, W: Write, F: FnMut(&[u8], &mut Vec<u8>) -> i
     room: usize,
     mut case: F,
 ) -> io::Result<()>
-    requires { F.IsAlwaysCallable case }
+    requires { (state : F) (line answer : _) → length line.now ≤ room → F.pre state line answer }
 {
     let mut input = BufReader::new(alloc, input)?;
     let mut line = Vec::new(alloc);
