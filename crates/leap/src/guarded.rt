@@ -43,7 +43,7 @@ pub fn guarded_columns(
         };
     }
     let d = limb::sub_borrow(a, b, false);
-    difference_above(target, first, second, gap, k, d.borrow);
+    difference_above(target, first, second, gap, k, d.carry);
     Guarded {
         carry: false,
         guard: d.limb,
