@@ -12,28 +12,6 @@ use Rattle.lines.specs.Reading.{field, digits_hold}
 use Rattle.desklines.specs.declared.order.Order.{Order}
 use Rattle.desklines.specs.Order.{order_size, order_refusal, order_of}
 
-pub size_some : 0 < order_size
-unfolding order_size
-size_some = omega arith
-
-pub at_operation : 0 + 2 < order_size
-unfolding order_size
-at_operation = omega arith
-
-pub at_precision : 2 + 4 < order_size
-unfolding order_size
-at_precision = omega arith
-
-pub at_mode : 6 + 2 < order_size
-unfolding order_size
-at_mode = omega arith
-
-pub at_operation_few : 2 ≤ 4
-at_operation_few = omega arith
-
-pub at_precision_few : 4 ≤ 4
-at_precision_few = omega arith
-
 abbrev refused_order : ℕ → Order
 refused_order rule = record { subtracts = false; precision = 0; mode = 0; refusal = record { rule = rule; place = 3 } }
 
@@ -42,10 +20,6 @@ unfolding order_of
 named line rule n e = simp (e, ne_eqb rule 0 n)
 
 module _ (line : List ℕ) where
-  pub size_is : length line ≡ 9 → length line ≡ order_size
-  unfolding order_size
-  size_is e = e
-
   pub refused_size : (length line ≡ order_size → ⊥) → order_refusal line ≡ record { rule = 8; place = 3 }
   unfolding order_refusal first_refusal
   refused_size n = simp (ne_eqb (length line) order_size n)

@@ -1,9 +1,9 @@
 // The desk line: the operation, the target's precision and the mode.
-ghost use Rattle.std.specs.Prelude.{◌≡◌, ◌+◌, ◌≤◌, ◌<◌, ◌^◌, true, false, length};
-ghost use Rattle.lines.specs.Reading.{field, digits_hold};
-ghost use Rattle.desklines.specs.Order.{order_size, order_of};
+ghost use Rattle.std.specs.Prelude.{◌≡◌, false};
+ghost use Rattle.desklines.specs.Order.{order_of};
 
 use checks::Refusal;
+use lines::field_at;
 
 // What a desk line asks; its refusal's rule is 0 where it is accepted.
 #[derive(Clone, Copy)]
@@ -31,27 +31,6 @@ fn refused(rule: u8) -> Order
     }
 }
 
-// The whole number of n digits from a place on.
-fn field_at(line: &[u8], at: usize, n: usize) -> u64
-    requires { (digits_hold line.now ≡ true) × (length line.now ≡ order_size) × (at + n < order_size) × (n ≤ 4) }
-    ensures { (result ≡ field at n line.now) × (result < 16 ^ n) }
-{
-    let end = at + n;
-    text::read_digits(&line[at..end])
-}
-
-// 9: digits, and LF at the end.
-fn digits_hold(line: &[u8]) -> bool
-    requires { length line.now ≡ order_size }
-    ensures { result ≡ digits_hold line.now }
-{
-    let last = line.len() - 1;
-    if line[last] != 10 {
-        return false;
-    }
-    text::all_digits(&line[0..last])
-}
-
 // 8, 9 and 11, in that order.
 pub fn read_order(line: &[u8]) -> Order
     ensures { result ≡ order_of line.now }
@@ -59,7 +38,7 @@ pub fn read_order(line: &[u8]) -> Order
     if line.len() != ORDER_SIZE {
         return refused(8);
     }
-    if !digits_hold(line) {
+    if !lines::digits_hold(line) {
         return refused(9);
     }
     let operation = field_at(line, 0, 2);

@@ -4,10 +4,13 @@
 //     0         2              6             14, top first
 #![tactic(auto)]
 
+mod digits; // digits.rt: a line of digits and its fields
+
 ghost use Rattle.std.specs.Prelude.{◌≡◌};
 ghost use Rattle.lines.specs.Line.{shortest_line, longest_line, line_size};
 
 use checks::{Number, Refusal};
+pub use digits::{digits_hold, field_at};
 
 // The number that a line holds, without its limbs, and the refusal; a refused number is +0 of precision 2.
 #[derive(Clone, Copy)]
@@ -26,8 +29,11 @@ pub struct Written {
 // The bytes of a zero's line, LF included.
 pub const SHORTEST_LINE: usize = 15;
 
+// The limbs of the largest precision.
+pub const MOST_LIMBS: usize = (checks::MOST_PRECISION as usize + 63) / 64;
+
 // The bytes of a regular number's line at the largest precision.
-pub const LONGEST_LINE: usize = SHORTEST_LINE + 16 * ((checks::MOST_PRECISION as usize + 63) / 64);
+pub const LONGEST_LINE: usize = SHORTEST_LINE + 16 * MOST_LIMBS;
 
 // No line is shorter.
 pub fn shortest_line() -> usize

@@ -5,10 +5,10 @@ ghost use Rattle.std.specs.Prelude.{◌≡◌, true, ◌+◌, ◌*◌, ◌^◌, 
 ghost use Rattle.checks.specs.Number.{operand_of, nothing};
 ghost use Rattle.checks.specs.Check.{form_holds};
 ghost use Rattle.lines.specs.Line.{shortest_line};
-ghost use Rattle.lines.specs.Reading.{field, signed_of, kind_of, number_in, limbs_in, digits_hold, head_of, read_of, target_after};
+ghost use Rattle.lines.specs.Reading.{signed_of, kind_of, number_in, limbs_in, digits_hold, head_of, read_of, target_after};
 
 use checks::{Kind, Number, Refusal};
-use lines::{Head, SHORTEST_LINE, line_size};
+use lines::{Head, SHORTEST_LINE, field_at, line_size};
 
 fn refused(rule: u8, place: u8) -> Head
     ensures { result ≡ record { number = nothing; refusal = record { rule = rule; place = place } } }
@@ -23,27 +23,6 @@ fn refused(rule: u8, place: u8) -> Head
         number: number,
         refusal: Refusal { rule, place },
     }
-}
-
-// 9: digits, and LF at the end.
-fn digits_hold(line: &[u8]) -> bool
-    requires { 0 < length line.now }
-    ensures { result ≡ digits_hold line.now }
-{
-    let last = line.len() - 1;
-    if line[last] != 10 {
-        return false;
-    }
-    text::all_digits(&line[0..last])
-}
-
-// The whole number of n digits from a place on.
-fn field_at(line: &[u8], at: usize, n: usize) -> u64
-    requires { (digits_hold line.now ≡ true) × (at + n < length line.now) × (n ≤ 16) }
-    ensures { (result ≡ field at n line.now) × (result < 16 ^ n) }
-{
-    let end = at + n;
-    text::read_digits(&line[at..end])
 }
 
 // A word in two's complement.
@@ -115,7 +94,7 @@ pub fn read_head(line: &[u8]) -> Head
     if line.len() < SHORTEST_LINE {
         return refused(8, 1);
     }
-    if !digits_hold(line) {
+    if !lines::digits_hold(line) {
         return refused(9, 1);
     }
     digits_head(line)
@@ -137,10 +116,8 @@ fn read_limbs(line: &[u8], target: &mut [u64])
     requires { (digits_hold line.now ≡ true) × (length line.now ≡ shortest_line + 16 * length target.old) }
     ensures { target.new ≡ limbs_in (length target.old) line.now }
 {
-    let mut i = target.len();
     let mut at: usize = 14;
-    while 0 < i {
-        i -= 1;
+    for i in (0..target.len()).rev() {
         target[i] = field_at(line, at, 16);
         at += 16;
     }

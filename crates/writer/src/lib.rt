@@ -33,10 +33,8 @@ fn write_limbs(limbs: &[u64], part: &mut [u8])
     requires { length part.old ≡ 16 * length limbs.now }
     ensures { part.new ≡ limb_digits limbs.now }
 {
-    let mut i = limbs.len();
     let mut at: usize = 0;
-    while 0 < i {
-        i -= 1;
+    for i in (0..limbs.len()).rev() {
         let end = at + 16;
         text::write_digits(&mut part[at..end], limbs[i]);
         at = end;

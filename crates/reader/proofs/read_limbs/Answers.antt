@@ -19,7 +19,7 @@ loop-i-init c =
     let a = c.args in
     let t : List ℕ = a.target.now in
     let none : length t - length t ≡ 0 = omega arith in
-    (search rules, search rules, search rules, rw (none, drop-length t) (no_limbs a.line.now))
+    (search rules, search rules, rw (none, drop-length t) (no_limbs a.line.now))
 
 pub field_at-requires : goal.field_at-requires
 field_at-requires c = (c.requires.0, omega (arith, shortest_is), omega arith)
@@ -32,10 +32,10 @@ loop-i-preserved c =
     let l = c.loop-i in
     let a = c.args in
     let t : List ℕ = a.target.now in
-    (search rules, simp length-set (omega arith), omega arith, limb_more a.line.now l.target l.i (l.i - 1) (length t - l.i) (length t - (l.i - 1)) l.at _ (omega arith) (omega arith) (omega arith) (omega arith) c.field_at.ensures.0 l.invariant.3)
+    (simp length-set (omega arith), omega arith, limb_more a.line.now l.target l.i (l.i - 1) (length t - l.i) (length t - (l.i - 1)) l.at _ (omega arith) (omega arith) (omega arith) (omega arith) c.field_at.ensures.0 l.invariant.2)
 
 pub returns : goal.returns
 returns c =
     let l = c.loop-i in
     let a = c.args in
-    finished a.line.now l.target l.i (length a.target.now) (omega arith) l.invariant.3
+    finished a.line.now l.target l.i (length a.target.now) (omega arith) l.invariant.2

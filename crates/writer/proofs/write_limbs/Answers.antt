@@ -29,16 +29,16 @@ pub loop-i-init : goal.loop-i-init
 loop-i-init c =
     let a = c.args in
     let l : List ℕ = a.limbs.now in
-    (search rules, search rules, search rules, rw (drop-length l) (no_digits a.part.now))
+    (search rules, search rules, rw (drop-length l) (no_digits a.part.now))
 
 pub loop-i-preserved : goal.loop-i-preserved
 loop-i-preserved c =
     let l = c.loop-i in
     let a = c.args in
-    (search rules, search rules, omega arith, step l.part a.part.now a.limbs.now _ l.i (l.i - 1) l.at (omega arith) (omega arith) (omega arith) (omega arith) l.invariant.3 c.write_digits.ensures)
+    (search rules, omega arith, step l.part a.part.now a.limbs.now _ l.i (l.i - 1) l.at (omega arith) (omega arith) (omega arith) (omega arith) l.invariant.2 c.write_digits.ensures)
 
 pub returns : goal.returns
 returns c =
     let l = c.loop-i in
     let a = c.args in
-    finished l.part a.part.now a.limbs.now l.i (omega arith) c.requires l.invariant.3
+    finished l.part a.part.now a.limbs.now l.i (omega arith) c.requires l.invariant.2

@@ -1,29 +1,26 @@
 -- `desklines::read_order`: 8, 9, 11 in that order. Assumes nothing.
 use mathlib.Core.Path.{sym, ◌∙◌}
 use native.Mathlib.Omega.{arith}
-use Rattle.desklines.proofs.Orders.{wrong_size, size_is, no_digits, at_operation, at_operation_few, no_operation, at_precision, at_precision_few, at_mode, taken}
+use Rattle.desklines.proofs.Orders.{wrong_size, no_digits, no_operation, taken}
 use Rattle.desklines.proofs.order.read_order.Goals as goal
 
 pub returns-then-line-ne-ORDER_SIZE : goal.returns-then-line-ne-ORDER_SIZE
 returns-then-line-ne-ORDER_SIZE c = c.refused.ensures ∙ wrong_size c.args.line.now c.if-line-ne-ORDER_SIZE.true
 
-pub digits_hold-requires : goal.digits_hold-requires
-digits_hold-requires c = size_is c.args.line.now c.if-line-ne-ORDER_SIZE.false
-
 pub returns-then-not-digits_hold : goal.returns-then-not-digits_hold
 returns-then-not-digits_hold c = c.refused-then-not-digits_hold.ensures ∙ no_digits c.args.line.now c.if-line-ne-ORDER_SIZE.false (sym c.digits_hold.ensures ∙ c.if-not-digits_hold.true)
 
 pub field_at-operation-requires : goal.field_at-operation-requires
-field_at-operation-requires c = (sym c.digits_hold.ensures ∙ c.if-not-digits_hold.false, size_is c.args.line.now c.if-line-ne-ORDER_SIZE.false, at_operation, at_operation_few)
+field_at-operation-requires c = (sym c.digits_hold.ensures ∙ c.if-not-digits_hold.false, omega arith, omega arith)
 
 pub returns-then-operation-gt1 : goal.returns-then-operation-gt1
 returns-then-operation-gt1 c = c.refused-then-operation-gt1.ensures ∙ no_operation c.args.line.now c.if-line-ne-ORDER_SIZE.false (sym c.digits_hold.ensures ∙ c.if-not-digits_hold.false) (omega (arith, c.if-operation-gt1.true, c.field_at-operation.ensures.0))
 
 pub field_at-requires : goal.field_at-requires
-field_at-requires c = (sym c.digits_hold.ensures ∙ c.if-not-digits_hold.false, size_is c.args.line.now c.if-line-ne-ORDER_SIZE.false, at_precision, at_precision_few)
+field_at-requires c = (sym c.digits_hold.ensures ∙ c.if-not-digits_hold.false, omega arith, omega arith)
 
 pub field_at-requires-2 : goal.field_at-requires-2
-field_at-requires-2 c = (sym c.digits_hold.ensures ∙ c.if-not-digits_hold.false, size_is c.args.line.now c.if-line-ne-ORDER_SIZE.false, at_mode, at_operation_few)
+field_at-requires-2 c = (sym c.digits_hold.ensures ∙ c.if-not-digits_hold.false, omega arith, omega arith)
 
 pub overflow_cast-result : goal.overflow_cast-result
 overflow_cast-result c = record { fits = c.field_at-2.ensures.1 }

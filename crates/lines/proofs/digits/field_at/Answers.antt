@@ -1,7 +1,7 @@
--- `reader::field_at`: sixteen digits fit 64 bits, so nothing is dropped. Assumes nothing.
+-- `lines::field_at`: sixteen digits fit 64 bits, so nothing is dropped. Assumes nothing.
 use mathlib.Core.Path.{refl, ◌∙◌}
 use Rattle.lines.proofs.Fields.{field_whole, field_lt}
-use Rattle.reader.proofs.field_at.Goals as goal
+use Rattle.lines.proofs.digits.field_at.Goals as goal
 
 pub returns : goal.returns
 returns c =
