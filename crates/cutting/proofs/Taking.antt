@@ -6,7 +6,7 @@ use Prim.Native.Nat.{ℕ, ◌+◌, ◌<◌}
 use native.Mathlib.Omega.{arith}
 use borrow.Author.Tests.{eq-eqb, ne_eqb}
 use lib.ListN.{take}
-use Rattle.cutting.specs.declared.Held.{Held}
+use Rattle.cutting.specs.Group.{Held}
 use Rattle.cutting.specs.Lines.{ends_line}
 use Rattle.cutting.specs.Group.{longer, with_byte, group_in, Grown, Within, Takes}
 use Rattle.cutting.proofs.Keeping.{grown_none}

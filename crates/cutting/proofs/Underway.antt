@@ -9,7 +9,7 @@ use borrow.Author.Tests.{le-leb, lt-leb}
 use lib.ListN.{length, take, drop, get_or, drop_of_length-le}
 use lib.Seq.{drop-cons, length-take-le}
 use Rattle.lines.specs.Writing.{onto}
-use Rattle.cutting.specs.declared.Held.{Held}
+use Rattle.cutting.specs.Group.{Held}
 use Rattle.cutting.specs.Group.{Group, is_whole, with_byte, after, taken, group_in, held_of, Cuts, Grown, Within, Counts, Rooms, Takes}
 use Rattle.cutting.proofs.Keeping.{grown_none, grown_twice, held_is}
 

@@ -1,7 +1,5 @@
 -- A group under way, byte by byte, and the buffers that hold it. Definitions only.
 use Rattle.std.specs.Prelude.{ℕ, suc, ◌+◌, ◌≤◌, ◌≡◌, Bool, cond, List, [], ◌∷◌, ◌++◌, leb, eqb, length, take, drop}
-use Rattle.cutting.specs.declared.Held.{Held}
-use Rattle.cutting.specs.declared.Progress.{Progress}
 use Rattle.lines.specs.Writing.{onto}
 use Rattle.cutting.specs.Lines.{line_room, ends_line, cut_line}
 
@@ -11,6 +9,18 @@ pub record Group : Type 0 where
   pub first : List ℕ
   pub second : List ℕ
   pub third : List ℕ
+
+-- how many lines of a group are whole, and how many bytes of each line are held
+pub record Held : Type 0 where
+  pub lines : ℕ
+  pub first : ℕ
+  pub second : ℕ
+  pub third : ℕ
+
+-- what is held after some bytes, and how many of them were taken
+pub record Progress : Type 0 where
+  pub held : Held
+  pub taken : ℕ
 
 -- nothing of a group
 unfoldable pub no_group : Group

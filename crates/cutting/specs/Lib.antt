@@ -1,2 +1,3 @@
 pub mod Lines
 pub mod Group
+pub mod Held

@@ -1,7 +1,7 @@
 // The desk program: groups of three lines from standard input, an answer for each to standard output.
 #![tactic(auto)]
 
-use cutting::{Held, LINE_ROOM};
+use cutting::{LINE_ROOM, Lines};
 use std::io;
 use std::io::{Read, Write};
 
@@ -11,41 +11,28 @@ const PIECE_ROOM: usize = 65536;
 // The room for what is printed for a piece.
 const OUT_ROOM: usize = 65536;
 
-// Serves a piece of the input, and writes what is printed whenever there may be no room for more. What is held then;
-// nothing where no more can be taken.
+// Serves a piece of the input, and writes what is printed whenever there may be no room for more. Whether all was taken.
 fn serve_piece<W: Write>(
-    held: Held,
+    lines: &mut Lines,
     piece: &[u8],
-    first: &mut [u8],
-    second: &mut [u8],
-    third: &mut [u8],
     out: &mut [u8],
     output: &mut W,
-) -> io::Result<Option<Held>> {
-    let mut held = held;
+) -> io::Result<bool> {
     let mut rest = piece;
     while !rest.is_empty() {
-        let served = stream::serve(held, rest, first, second, third, out);
+        let served = stream::serve(lines, rest, out);
         output.write_all(&out[..served.told])?;
         if served.taken == 0 {
-            return Ok(None);
+            return Ok(false);
         }
-        held = served.held;
         rest = &rest[served.taken..];
     }
-    Ok(Some(held))
+    Ok(true)
 }
 
 // The end of the input.
-fn finish<W: Write>(
-    held: Held,
-    first: &[u8],
-    second: &[u8],
-    third: &[u8],
-    out: &mut [u8],
-    output: &mut W,
-) -> io::Result<()> {
-    let told = stream::finish(held, first, second, third, out);
+fn finish<W: Write>(lines: &Lines, out: &mut [u8], output: &mut W) -> io::Result<()> {
+    let told = stream::finish(lines, out);
     output.write_all(&out[..told])
 }
 
@@ -56,27 +43,17 @@ fn run<R: Read, W: Write>(input: &mut R, output: &mut W) -> io::Result<()> {
     let mut second = [0u8; LINE_ROOM];
     let mut third = [0u8; LINE_ROOM];
     let mut out = [0u8; OUT_ROOM];
-    let mut held = cutting::start();
+    let mut lines = Lines::new(&mut first, &mut second, &mut third);
     for _ in 0..u64::MAX {
         let got = input.read(&mut piece).unwrap_or(0);
         if got == 0 {
             break;
         }
-        let Some(after) = serve_piece(
-            held,
-            &piece[..got],
-            &mut first,
-            &mut second,
-            &mut third,
-            &mut out,
-            output,
-        )?
-        else {
+        if !serve_piece(&mut lines, &piece[..got], &mut out, output)? {
             return Ok(());
-        };
-        held = after;
+        }
     }
-    finish(held, &first, &second, &third, &mut out, output)
+    finish(&lines, &mut out, output)
 }
 
 fn main(rt: HostRuntime) -> io::Result<()> {

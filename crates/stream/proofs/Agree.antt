@@ -14,7 +14,6 @@ use Rattle.reports.proofs.Agree.{accepted_or, reported_unique}
 use Rattle.lines.specs.Writing.{onto}
 use Rattle.desklines.specs.Answer.{sum_lines, group_refusal, Answered, longest_answer}
 use Rattle.desklines.specs.Written.{Answers}
-use Rattle.cutting.specs.declared.Held.{Held}
 use Rattle.stream.specs.declared.serving.Served.{Served}
 use Rattle.cutting.specs.Group.{Group, after, taken}
 use Rattle.stream.specs.Desk.{Printed, nothing, no_second, no_third, group}
@@ -89,40 +88,28 @@ serves_unique {s = s} {bytes = bytes} (answers {told = o} {rest = x} b r w a k) 
     let i = serves_unique k (rw (← e) at l) in
     (ap (λ (j : ℕ). taken (group_of s) bytes + j) i.0, ap (λ (z : List ℕ). z ++ x) e ∙ ap (λ (z : List ℕ). p ++ z) i.1, i.2)
 
-same_served : (r q : Served) → r.held ≡ q.held → r.taken ≡ q.taken → r.told ≡ q.told → r ≡ q
-same_served r q a b c =
-    let x : r ≡ record { held = r.held; taken = r.taken; told = r.told } = refl in
-    x
-    ∙ ap (λ (h : Held). record { held = h; taken = r.taken; told = r.told }) a
-    ∙ ap (λ (n : ℕ). record { held = q.held; taken = n; told = r.told }) b
-    ∙ ap (λ (n : ℕ). record { held = q.held; taken = q.taken; told = n }) c
+same_served : (r q : Served) → r.taken ≡ q.taken → r.told ≡ q.told → r ≡ q
+same_served r q a b =
+    let x : r ≡ record { taken = r.taken; told = r.told } = refl in
+    x ∙ ap (λ (n : ℕ). record { taken = n; told = r.told }) a ∙ ap (λ (n : ℕ). record { taken = q.taken; told = n }) b
 
--- the state that an answer and the buffers make
-abbrev state_of : Served → List ℕ → List ℕ → List ℕ → State
-state_of r one two three = record { held = r.held; first = one; second = two; third = three }
-
--- `serve`: the answer, the three buffers and the room
-module _ (s : State) (bytes entry : List ℕ) (r q : Served) (one two three exit one' two' three' left : List ℕ) where
+-- `serve`: the answer, what is held and the room
+module _ (s t u : State) (bytes entry exit left : List ℕ) (r q : Served) where
   abbrev Same : Type 0
-  Same = (r ≡ q) × (one ≡ one') × (two ≡ two') × (three ≡ three') × (exit ≡ left)
+  Same = (r ≡ q) × (t ≡ u) × (exit ≡ left)
 
-  same_state : r.taken ≡ q.taken → r.told ≡ q.told → state_of r one two three ≡ state_of q one' two' three' → exit ≡ left → Same
-  same_state a b e f =
-      (same_served r q (ap (λ (k : State). k.held) e) a b, ap (λ (k : State). k.first) e, ap (λ (k : State). k.second) e, ap (λ (k : State). k.third) e, f)
-
-  pub served_unique : ServedBy s bytes (state_of r one two three) entry exit r → ServedBy s bytes (state_of q one' two' three') entry left q → Same
+  pub served_unique : ServedBy s bytes t entry exit r → ServedBy s bytes u entry left q → Same
   served_unique x y = go (is_ready s entry) refl
     where
       go : (c : Bool) → is_ready s entry ≡ c → Same
       go false e =
           let a = x.unready e in
           let b = y.unready e in
-          let p : r ≡ q = a.0 ∙ sym b.0 in
-          same_state (ap (λ (k : Served). k.taken) p) (ap (λ (k : Served). k.told) p) (a.1 ∙ sym b.1) (a.2 ∙ sym b.2)
+          (a.0 ∙ sym b.0, a.1 ∙ sym b.1, a.2 ∙ sym b.2)
       go true e =
           let a = serves_unique (x.served e) (y.served e) in
           let b = same_told entry exit left r.told q.told x.fits y.fits (x.told e) (y.told e) a.1 in
-          same_state a.0 b.0 a.2 b.1
+          (same_served r q a.0 b.0, a.2, b.1)
 
 -- ---- the end of the input
 

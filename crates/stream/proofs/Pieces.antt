@@ -14,11 +14,9 @@ use Rattle.parts.proofs.Parts.{part_is, put_is}
 use Rattle.lines.specs.Writing.{onto}
 use Rattle.desklines.specs.Answer.{Answered, longest_answer}
 use Rattle.desklines.specs.Written.{Answers, Tells}
-use Rattle.cutting.specs.declared.Held.{Held}
-use Rattle.cutting.specs.declared.Progress.{Progress}
 use Rattle.stream.specs.declared.serving.Served.{Served}
 use Rattle.cutting.specs.Lines.{line_room}
-use Rattle.cutting.specs.Group.{Group, no_group, is_whole, with_byte, after, taken, group_in, held_of, Cuts, Within, Counts, Rooms}
+use Rattle.cutting.specs.Group.{Group, Held, Progress, no_group, is_whole, with_byte, after, taken, group_in, held_of, Cuts, Within, Counts, Rooms}
 use Rattle.stream.specs.Serving.{State, group_of, keeping, Serves, ended, full, waits, answers, Ends, nothing, one_line, only_one, two_lines, only_two, three_lines, is_ready, ServedBy, Finished}
 use Rattle.stream.specs.Desk.{cut_short}
 
@@ -124,7 +122,7 @@ serving_begins most s bytes entry e r =
 
 module _ (most : ℕ) (start : State) (bytes entry : List ℕ) (s : State) (out : List ℕ) (count told : ℕ) (v : Serving most start bytes entry s out count told) where
   -- nothing more is taken, or a part of a group
-  stops : (n : ℕ) (t : State) (r : Served) → Serves (length entry - told) s (drop count bytes) n [] t → r ≡ record { held = t.held; taken = count + n; told = told } → count + n ≤ length bytes → ServedBy start bytes t entry out r
+  stops : (n : ℕ) (t : State) (r : Served) → Serves (length entry - told) s (drop count bytes) n [] t → r ≡ record { taken = count + n; told = told } → count + n ≤ length bytes → ServedBy start bytes t entry out r
   stops n t r k e f = record {
     unready = λ z. absurd (true_false v.ready z);
     served = λ z. rw (e, ← (append-nil (take told out))) (v.goes n [] t k);
@@ -133,17 +131,17 @@ module _ (most : ℕ) (start : State) (bytes entry : List ℕ) (s : State) (out 
     far = rw e f;
   }
 
-  pub stops_full : count < length bytes → length out - told < most → ServedBy start bytes s entry out (record { held = s.held; taken = count; told = told })
+  pub stops_full : count < length bytes → length out - told < most → ServedBy start bytes s entry out (record { taken = count; told = told })
   stops_full m f =
       let z : count + 0 ≡ count = omega arith in
       let l : 0 < length (drop count bytes) = simp length-drop (omega arith) in
-      stops 0 s _ (full l (omega (arith, v.same, v.most_is))) (ap (λ (i : ℕ). record { held = s.held; taken = i; told = told }) (sym z)) (omega (arith, v.far))
+      stops 0 s _ (full l (omega (arith, v.same, v.most_is))) (ap (λ (i : ℕ). record { taken = i; told = told }) (sym z)) (omega (arith, v.far))
 
-  pub stops_ended : length bytes ≤ count → ServedBy start bytes s entry out (record { held = s.held; taken = count; told = told })
+  pub stops_ended : length bytes ≤ count → ServedBy start bytes s entry out (record { taken = count; told = told })
   stops_ended m =
       let z : count + 0 ≡ count = omega arith in
       let l : drop count bytes ≡ [] = drop_of_length-le bytes m in
-      stops 0 s _ (rw l ended) (ap (λ (i : ℕ). record { held = s.held; taken = i; told = told }) (sym z)) (omega (arith, v.far))
+      stops 0 s _ (rw l ended) (ap (λ (i : ℕ). record { taken = i; told = told }) (sym z)) (omega (arith, v.far))
 
   module _ (more : count < length bytes) (room : most ≤ length out - told) (p : Progress) (x y z : List ℕ) (c : Cuts s.held (take (length bytes - count) (drop count bytes)) s.first s.second s.third x y z p) where
     h : Group
@@ -190,7 +188,7 @@ module _ (most : ℕ) (start : State) (bytes entry : List ℕ) (s : State) (out 
     pub taken_far : count + p.taken ≤ length bytes
     taken_far = omega (arith, taken_is, taken_le (group_of s) (drop count bytes), length-drop count bytes)
 
-    pub waits_served : p.held.lines < 3 → ServedBy start bytes (record { held = p.held; first = x; second = y; third = z }) entry out (record { held = p.held; taken = count + p.taken; told = told })
+    pub waits_served : p.held.lines < 3 → ServedBy start bytes (record { held = p.held; first = x; second = y; third = z }) entry out (record { taken = count + p.taken; told = told })
     unfolding is_whole h
     waits_served f =
         let w : is_whole h ≡ false = lt-leb 3 h.lines (omega (arith, lines_are)) in
@@ -295,15 +293,7 @@ module _ (most : ℕ) (start : State) (bytes entry : List ℕ) (s : State) (out 
     pub taken_some : 0 < p.taken
     taken_some = omega (arith, taken_is, taken_pos (group_of s) (drop count bytes) some group_few)
 
-    pub held_within : Rooms x y z → Within p.held
-    unfolding held_of
-    held_within r = record {
-      first = omega (arith, r.first, ap length first_is, onto_longer h.first s.first, ap (λ (k : Held). k.first) held_is);
-      second = omega (arith, r.second, ap length second_is, onto_longer h.second s.second, ap (λ (k : Held). k.second) held_is);
-      third = omega (arith, r.third, ap length third_is, onto_longer h.third s.third, ap (λ (k : Held). k.third) held_is);
-    }
-
-pub serve_unready : (s : State) (bytes out : List ℕ) → is_ready s out ≡ false → ServedBy s bytes s out out (record { held = s.held; taken = 0; told = 0 })
+pub serve_unready : (s : State) (bytes out : List ℕ) → is_ready s out ≡ false → ServedBy s bytes s out out (record { taken = 0; told = 0 })
 serve_unready s bytes out r = record {
   unready = λ f. (refl, refl, refl);
   served = λ f. absurd (true_false f r);
@@ -313,9 +303,6 @@ serve_unready s bytes out r = record {
 }
 
 -- ---- the end of the input
-
-pub whole_part : (n : ℕ) → n - 0 ≡ n
-whole_part n = omega arith
 
 some_byte : (n : ℕ) (l : List ℕ) → (n ≡ 0 → ⊥) → length l ≡ line_room → take n l ≡ [] → ⊥
 unfolding line_room
@@ -371,14 +358,11 @@ module _ (s : State) (out exit : List ℕ) (n : ℕ) where
     unfolding group_of group_in
     finish_only_two a b f t = finish_told (cut_short 3) t (only_two (two_lines_lem a b) (no_byte s.held.third s.third f))
 
-    pub finish_three : (h : Held) → (s.held.lines ≡ 0 → ⊥) → (s.held.lines ≡ 1 → ⊥) → (s.held.third ≡ 0 → ⊥)
-        → Counts s.held.first h.first → Counts s.held.second h.second → Counts s.held.third h.third
-        → Answers (take h.first s.first) (take h.second s.second) (take h.third s.third) out exit n → Finished s out exit n
+    pub finish_three : (s.held.lines ≡ 0 → ⊥) → (s.held.lines ≡ 1 → ⊥) → (s.held.third ≡ 0 → ⊥)
+        → Answers (take s.held.first s.first) (take s.held.second s.second) (take s.held.third s.third) out exit n → Finished s out exit n
     unfolding group_of group_in onto
-    finish_three h a b f i j k t =
+    finish_three a b f t =
         let long : longest_answer ≤ length out = (is_ready_lem s out r).room in
         let e : n ≤ length exit = omega (arith, t.fits long, ap length (t.told long), onto_longer (take n exit) out, onto_as_long (take n exit) out) in
         let m : length (take n exit) ≡ n = length-take-le n exit e in
-        let g : Answered (take s.held.first s.first) (take s.held.second s.second) (take s.held.third s.third) (take n exit) =
-        rw (i.1 s.first rooms.first, j.1 s.second rooms.second, k.1 s.third rooms.third) at (t.answered long) in
-        finish_told (take n exit) (record { count_is = sym m; exit_is = t.told long }) (three_lines (two_lines_lem a b) (some_byte s.held.third s.third f rooms.third) g)
+        finish_told (take n exit) (record { count_is = sym m; exit_is = t.told long }) (three_lines (two_lines_lem a b) (some_byte s.held.third s.third f rooms.third) (t.answered long))

@@ -2,10 +2,11 @@
 use Rattle.std.specs.Prelude.{ℕ, ◌+◌, ◌-◌, ◌≤◌, ◌<◌, ◌≡◌, Bool, true, false, ◌&&◌, List, [], ◌++◌, ltb, leb, eqb, length, take, drop}
 use Rattle.lines.specs.Writing.{onto}
 use Rattle.desklines.specs.Answer.{Answered, longest_answer}
-use Rattle.cutting.specs.declared.Held.{Held}
+use Rattle.cutting.specs.declared.Lines.{Lines}
+use Rattle.cutting.specs.Held.{counts_in}
 use Rattle.stream.specs.declared.serving.Served.{Served}
 use Rattle.cutting.specs.Lines.{line_room}
-use Rattle.cutting.specs.Group.{Group, no_group, is_whole, after, taken, group_in, held_of}
+use Rattle.cutting.specs.Group.{Group, Held, no_group, is_whole, after, taken, group_in, held_of}
 use Rattle.stream.specs.Desk.{cut_short}
 
 -- what is held between two pieces: the counts, and a buffer for each line
@@ -14,6 +15,10 @@ pub record State : Type 0 where
   pub first : List ℕ
   pub second : List ℕ
   pub third : List ℕ
+
+-- what the lent lines hold
+abbrev pub state_of : Lines → State
+state_of g = record { held = counts_in g; first = g.first.bytes.now; second = g.second.bytes.now; third = g.third.bytes.now }
 
 unfoldable pub group_of : State → Group
 group_of s = group_in s.held s.first s.second s.third
@@ -64,7 +69,7 @@ is_ready s out =
 
 -- `serve`: a piece is taken; nothing is done where it is not ready
 pub record ServedBy (s : State) (bytes : List ℕ) (t : State) (entry exit : List ℕ) (r : Served) : Type 0 where
-  pub unready : is_ready s entry ≡ false → (r ≡ record { held = s.held; taken = 0; told = 0 }) × (t ≡ s) × (exit ≡ entry)
+  pub unready : is_ready s entry ≡ false → (r ≡ record { taken = 0; told = 0 }) × (t ≡ s) × (exit ≡ entry)
   pub served : is_ready s entry ≡ true → Serves (length entry) s bytes r.taken (take r.told exit) t
   pub told : is_ready s entry ≡ true → exit ≡ onto (take r.told exit) entry
   pub fits : r.told ≤ length exit

@@ -5,9 +5,10 @@ ghost use Rattle.desklines.specs.Order.{order_of, operation_of};
 ghost use Rattle.desklines.specs.Answer.{longest_answer};
 ghost use Rattle.desklines.specs.Written.{most_limbs, NumberHeld, AnswerTold, Answers};
 
-use crate::number::{MOST_LIMBS, limb_count, read_number};
+use crate::number::{limb_count, read_number};
 use checks::Number;
 use desklines::{Order, longest_answer, put_refusal, put_sum, read_order};
+use lines::MOST_LIMBS;
 use reports::Sum;
 
 // The sum or the difference.

@@ -5,10 +5,7 @@ ghost use Rattle.checks.specs.Number.{nothing};
 ghost use Rattle.desklines.specs.Written.{most_limbs, NumberRead};
 
 use checks::{Kind, Number, Refusal};
-use lines::Head;
-
-// The limbs of the largest precision.
-pub const MOST_LIMBS: usize = (checks::MOST_PRECISION as usize + 63) / 64;
+use lines::{Head, MOST_LIMBS};
 
 fn most_limbs() -> usize
     ensures { result ≡ most_limbs }
@@ -47,9 +44,7 @@ fn accepted(number: Number) -> Head
 pub(crate) fn limb_count(p: u64) -> usize
     ensures { result ≡ min (limbs_for p) most_limbs }
 {
-    let most = most_limbs();
-    let n = checks::limbs_for(p) as usize;
-    if n < most { n } else { most }
+    (checks::limbs_for(p) as usize).min(most_limbs())
 }
 
 // The number of a line, its limbs at the start of the room; a refusal has the line's place.

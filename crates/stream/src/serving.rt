@@ -2,116 +2,86 @@
 ghost use Rattle.std.specs.Prelude.{◌≡◌, true, ◌≤◌, length, take};
 ghost use Rattle.desklines.specs.Written.{Answers, Tells};
 ghost use Rattle.desklines.specs.Answer.{longest_answer};
-ghost use Rattle.cutting.specs.Group.{Rooms, Within};
+ghost use Rattle.cutting.specs.Held.{SameBuffers};
 ghost use Rattle.stream.specs.Desk.{cut_short};
-ghost use Rattle.stream.specs.Serving.{is_ready, ServedBy, Finished};
+ghost use Rattle.stream.specs.Serving.{state_of, is_ready, ServedBy, Finished};
 
 use crate::answering::answer;
 use checks::Refusal;
-use cutting::{Held, cut, line_room, start, within};
+use cutting::{Lines, line_room};
 
-// What is held after a piece, how many of its bytes were taken, and how many bytes were printed.
+// How many bytes of a piece were taken, and how many bytes were printed.
 #[derive(Clone, Copy)]
 pub struct Served {
-    pub held: Held,
     pub taken: usize,
     pub told: usize,
 }
 
 // No group is whole yet, the buffers have their size, and there is room for any answer.
-fn ready(held: Held, first: &[u8], second: &[u8], third: &[u8], out: &[u8]) -> bool
-    ensures { result ≡ is_ready (record { held = held; first = first.now; second = second.now; third = third.now }) out.now }
+fn ready(lines: &Lines, out: &[u8]) -> bool
+    ensures { result ≡ is_ready (state_of lines.now) out.now }
 {
     let room = line_room();
     let most = desklines::longest_answer();
-    if 3 <= held.lines {
+    if 3 <= lines.whole {
         return false;
     }
-    if first.len() != room {
+    if lines.first.bytes.len() != room {
         return false;
     }
-    if second.len() != room {
+    if lines.second.bytes.len() != room {
         return false;
     }
-    if third.len() != room {
+    if lines.third.bytes.len() != room {
         return false;
     }
     most <= out.len()
 }
 
 // The answer of a whole group that is held.
-fn answer_held(held: Held, first: &[u8], second: &[u8], third: &[u8], out: &mut [u8]) -> usize
-    requires { Within held × Rooms first.now second.now third.now }
-    ensures { Answers (take held.first first.now) (take held.second second.now) (take held.third third.now) out.old out.new result }
+fn answer_held(lines: &Lines, out: &mut [u8]) -> usize
+    ensures { Answers (take lines.now.first.held lines.now.first.bytes.now) (take lines.now.second.held lines.now.second.bytes.now) (take lines.now.third.held lines.now.third.bytes.now) out.old out.new result }
 {
-    let a = held.first;
-    let b = held.second;
-    let c = held.third;
-    answer(&first[0..a], &second[0..b], &third[0..c], out)
-}
-
-// What was done of a piece so far.
-fn so_far(held: Held, taken: usize, told: usize) -> Served
-    ensures { result ≡ record { held = held; taken = taken; told = told } }
-{
-    Served {
-        held: held,
-        taken: taken,
-        told: told,
-    }
+    answer(
+        lines.first.text(),
+        lines.second.text(),
+        lines.third.text(),
+        out,
+    )
 }
 
 // Group after group, as long as there is room for a longest answer.
-fn serve_groups(
-    held: Held,
-    bytes: &[u8],
-    first: &mut [u8],
-    second: &mut [u8],
-    third: &mut [u8],
-    out: &mut [u8],
-) -> Served
-    requires { is_ready (record { held = held; first = first.old; second = second.old; third = third.old }) out.old ≡ true }
-    ensures { ServedBy (record { held = held; first = first.old; second = second.old; third = third.old }) bytes.now (record { held = result.held; first = first.new; second = second.new; third = third.new }) out.old out.new result }
+fn serve_groups(lines: &mut Lines, bytes: &[u8], out: &mut [u8]) -> Served
+    requires { is_ready (state_of lines.old) out.old ≡ true }
+    ensures served { ServedBy (state_of lines.old) bytes.now (state_of lines.new) out.old out.new result }
+    ensures same { SameBuffers lines.old lines.new }
 {
     let most = desklines::longest_answer();
-    let mut h = held;
     let mut taken: usize = 0;
     let mut told: usize = 0;
     while taken < bytes.len() {
         if out.len() - told < most {
-            return so_far(h, taken, told);
+            return Served { taken, told };
         }
-        let p = cut(h, &bytes[taken..], first, second, third);
-        let k = p.held;
-        taken += p.taken;
-        if k.lines < 3 {
-            return so_far(k, taken, told);
+        taken += lines.cut(&bytes[taken..]);
+        if lines.whole < 3 {
+            return Served { taken, told };
         }
-        told += answer_held(k, first, second, third, &mut out[told..]);
-        h = start();
+        told += answer_held(lines, &mut out[told..]);
+        lines.clear();
     }
-    so_far(h, taken, told)
+    Served { taken, told }
 }
 
 // Takes bytes of a piece, and prints the answers of the groups that end in it.
-pub fn serve(
-    held: Held,
-    bytes: &[u8],
-    first: &mut [u8],
-    second: &mut [u8],
-    third: &mut [u8],
-    out: &mut [u8],
-) -> Served
-    ensures { ServedBy (record { held = held; first = first.old; second = second.old; third = third.old }) bytes.now (record { held = result.held; first = first.new; second = second.new; third = third.new }) out.old out.new result }
+pub fn serve(lines: &mut Lines, bytes: &[u8], out: &mut [u8]) -> Served
+    ensures served { ServedBy (state_of lines.old) bytes.now (state_of lines.new) out.old out.new result }
+    ensures same { SameBuffers lines.old lines.new }
 {
-    if !ready(held, first, second, third, out) {
-        return Served {
-            held: held,
-            taken: 0,
-            told: 0,
-        };
+    if !ready(lines, out) {
+        return Served { taken: 0, told: 0 };
     }
-    serve_groups(held, bytes, first, second, third, out)
+    serve_groups(lines, bytes, out)
 }
 
 // A group that the input cuts short: 8 at its first missing line.
@@ -129,27 +99,26 @@ fn cut_short(missing: u8, out: &mut [u8]) -> usize
 }
 
 // What is printed at the end of the input.
-pub fn finish(held: Held, first: &[u8], second: &[u8], third: &[u8], out: &mut [u8]) -> usize
-    ensures { Finished (record { held = held; first = first.now; second = second.now; third = third.now }) out.old out.new result }
+pub fn finish(lines: &Lines, out: &mut [u8]) -> usize
+    ensures { Finished (state_of lines.now) out.old out.new result }
 {
-    if !ready(held, first, second, third, out) {
+    if !ready(lines, out) {
         return 0;
     }
-    if held.lines == 0 {
-        if held.first == 0 {
+    if lines.whole == 0 {
+        if lines.first.held == 0 {
             return 0;
         }
         return cut_short(2, out);
     }
-    if held.lines == 1 {
-        if held.second == 0 {
+    if lines.whole == 1 {
+        if lines.second.held == 0 {
             return cut_short(2, out);
         }
         return cut_short(3, out);
     }
-    if held.third == 0 {
+    if lines.third.held == 0 {
         return cut_short(3, out);
     }
-    let h = within(held);
-    answer_held(h, first, second, third, out)
+    answer_held(lines, out)
 }

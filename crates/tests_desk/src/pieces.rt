@@ -1,5 +1,5 @@
 // One input, split into pieces of one size, and what the desk prints for it.
-use cutting::LINE_ROOM;
+use cutting::{LINE_ROOM, Lines};
 use desklines::LONGEST_ANSWER;
 use std::io;
 use std::io::Write;
@@ -15,19 +15,18 @@ fn serve_pieces<W: Write>(
     let mut first = [b'0'; LINE_ROOM];
     let mut second = [b'0'; LINE_ROOM];
     let mut third = [b'0'; LINE_ROOM];
-    let mut held = cutting::start();
+    let mut lines = Lines::new(&mut first, &mut second, &mut third);
     let mut rest = bytes;
     while !rest.is_empty() {
         let piece = &rest[..rest.len().min(size)];
-        let served = stream::serve(held, piece, &mut first, &mut second, &mut third, out);
+        let served = stream::serve(&mut lines, piece, out);
         output.write_all(&out[..served.told])?;
         if served.taken == 0 {
             return Ok(());
         }
-        held = served.held;
         rest = &rest[served.taken..];
     }
-    let told = stream::finish(held, &first, &second, &third, out);
+    let told = stream::finish(&lines, out);
     output.write_all(&out[..told])
 }
 

@@ -1,142 +1,86 @@
 -- `stream::serve_groups`: what was printed so far, and then what the rest prints. Assumes nothing.
+use Rattle.cutting.specs.Group.{Progress}
+use Rattle.cutting.specs.Held.{counts_in}
+use Rattle.stream.specs.Serving.{state_of}
 use Prim.Native.Nat.{◌-◌}
-use mathlib.Core.Path.{◌∙◌, sym}
+use mathlib.Core.Path.{refl, ◌∙◌}
 use native.Mathlib.Omega.{arith}
-use Rattle.stream.proofs.Pieces.{serving_begins, stops_full, stops_ended, waits_served, serving_next, taken_far, taken_some, held_within, r_fits, is_ready_lem}
+use Rattle.stream.proofs.Pieces.{serving_begins, stops_full, stops_ended, waits_served, serving_next, taken_far, taken_some, r_fits, is_ready_lem}
 use Rattle.stream.proofs.serving.serve_groups.Goals as goal
 
 pub loop-taken-init : goal.loop-taken-init
 loop-taken-init c =
     let g = c.args in
-    serving_begins c.longest_answer-most.result (record { held = g.held; first = g.first.now; second = g.second.now; third = g.third.now }) g.bytes.now g.out.now c.longest_answer-most.ensures c.requires
+    (serving_begins c.longest_answer-most.result (state_of g.lines.now) g.bytes.now g.out.now c.longest_answer-most.ensures c.requires, (refl, refl, refl))
 
 pub overflow_sub-out : goal.overflow_sub-out
-overflow_sub-out c = c.loop-taken.invariant.fits
-
-pub shape_of-first-then-out-told : goal.shape_of-first-then-out-told
-shape_of-first-then-out-told c =
-    let g = c.args in
-    let l = c.loop-taken in
-    l.invariant.rooms.first ∙ sym (is_ready_lem (record { held = g.held; first = g.first.now; second = g.second.now; third = g.third.now }) g.out.now l.invariant.ready).rooms.first
-
-pub shape_of-second-then-out-told : goal.shape_of-second-then-out-told
-shape_of-second-then-out-told c =
-    let g = c.args in
-    let l = c.loop-taken in
-    l.invariant.rooms.second ∙ sym (is_ready_lem (record { held = g.held; first = g.first.now; second = g.second.now; third = g.third.now }) g.out.now l.invariant.ready).rooms.second
-
-pub shape_of-third-then-out-told : goal.shape_of-third-then-out-told
-shape_of-third-then-out-told c =
-    let g = c.args in
-    let l = c.loop-taken in
-    l.invariant.rooms.third ∙ sym (is_ready_lem (record { held = g.held; first = g.first.now; second = g.second.now; third = g.third.now }) g.out.now l.invariant.ready).rooms.third
+overflow_sub-out c = c.loop-taken.invariant.0.fits
 
 pub shape_of-out-then-out-told : goal.shape_of-out-then-out-told
-shape_of-out-then-out-told c = c.loop-taken.invariant.same
+shape_of-out-then-out-told c = c.loop-taken.invariant.0.same
 
-pub returns-then-out-told : goal.returns-then-out-told
-returns-then-out-told c =
+pub returns-then-out-told-clause-served : goal.returns-then-out-told-clause-served
+returns-then-out-told-clause-served c =
     let g = c.args in
     let l = c.loop-taken in
-    rw c.so_far.ensures (stops_full c.longest_answer-most.result (record { held = g.held; first = g.first.now; second = g.second.now; third = g.third.now }) g.bytes.now g.out.now (record { held = l.h; first = l.first; second = l.second; third = l.third }) l.out l.taken l.told l.invariant c.loop-taken-test.true c.if-out-told.true)
+    (stops_full c.longest_answer-most.result (state_of g.lines.now) g.bytes.now g.out.now (state_of l.lines) l.out l.taken l.told l.invariant.0 c.loop-taken-test.true c.if-out-told.true)
 
-pub cut-p-requires : goal.cut-p-requires
-cut-p-requires c = c.loop-taken.invariant.rooms
+pub cut-taken-requires : goal.cut-taken-requires
+cut-taken-requires c = c.loop-taken.invariant.0.rooms
 
 pub overflow_add-taken : goal.overflow_add-taken
 overflow_add-taken c =
     let g = c.args in
     let l = c.loop-taken in
-    let k = c.cut-p in
-    let f = taken_far c.longest_answer-most.result (record { held = g.held; first = g.first.now; second = g.second.now; third = g.third.now }) g.bytes.now g.out.now (record { held = l.h; first = l.first; second = l.second; third = l.third }) l.out l.taken l.told l.invariant c.loop-taken-test.true c.if-out-told.false k.result k.new.first k.new.second k.new.third k.ensures in
+    let k = c.cut-taken in
+    let f = taken_far c.longest_answer-most.result (state_of g.lines.now) g.bytes.now g.out.now (state_of l.lines) l.out l.taken l.told l.invariant.0 c.loop-taken-test.true c.if-out-told.false (record { held = counts_in k.new.self; taken = k.result }) k.new.self.first.bytes.now k.new.self.second.bytes.now k.new.self.third.bytes.now k.ensures.cuts in
     record { fits = omega (arith, f, c.well_formed.1.0.0) }
 
-pub shape_of-first-then-k-lt3 : goal.shape_of-first-then-k-lt3
-shape_of-first-then-k-lt3 c =
+pub shape_of-out-then-lines-lt3 : goal.shape_of-out-then-lines-lt3
+shape_of-out-then-lines-lt3 c = c.loop-taken.invariant.0.same
+
+pub returns-then-lines-lt3-clause-served : goal.returns-then-lines-lt3-clause-served
+returns-then-lines-lt3-clause-served c =
     let g = c.args in
     let l = c.loop-taken in
-    let k = c.cut-p in
-    k.auto.first ∙ l.invariant.rooms.first ∙ sym (is_ready_lem (record { held = g.held; first = g.first.now; second = g.second.now; third = g.third.now }) g.out.now l.invariant.ready).rooms.first
-
-pub shape_of-second-then-k-lt3 : goal.shape_of-second-then-k-lt3
-shape_of-second-then-k-lt3 c =
-    let g = c.args in
-    let l = c.loop-taken in
-    let k = c.cut-p in
-    k.auto.second ∙ l.invariant.rooms.second ∙ sym (is_ready_lem (record { held = g.held; first = g.first.now; second = g.second.now; third = g.third.now }) g.out.now l.invariant.ready).rooms.second
-
-pub shape_of-third-then-k-lt3 : goal.shape_of-third-then-k-lt3
-shape_of-third-then-k-lt3 c =
-    let g = c.args in
-    let l = c.loop-taken in
-    let k = c.cut-p in
-    k.auto.third ∙ l.invariant.rooms.third ∙ sym (is_ready_lem (record { held = g.held; first = g.first.now; second = g.second.now; third = g.third.now }) g.out.now l.invariant.ready).rooms.third
-
-pub shape_of-out-then-k-lt3 : goal.shape_of-out-then-k-lt3
-shape_of-out-then-k-lt3 c = c.loop-taken.invariant.same
-
-pub returns-then-k-lt3 : goal.returns-then-k-lt3
-returns-then-k-lt3 c =
-    let g = c.args in
-    let l = c.loop-taken in
-    let k = c.cut-p in
-    rw c.so_far-then-k-lt3.ensures (waits_served c.longest_answer-most.result (record { held = g.held; first = g.first.now; second = g.second.now; third = g.third.now }) g.bytes.now g.out.now (record { held = l.h; first = l.first; second = l.second; third = l.third }) l.out l.taken l.told l.invariant c.loop-taken-test.true c.if-out-told.false k.result k.new.first k.new.second k.new.third k.ensures c.if-k-lt3.true)
-
-pub answer_held-told-requires : goal.answer_held-told-requires
-answer_held-told-requires c =
-    let g = c.args in
-    let l = c.loop-taken in
-    let k = c.cut-p in
-    (held_within c.longest_answer-most.result (record { held = g.held; first = g.first.now; second = g.second.now; third = g.third.now }) g.bytes.now g.out.now (record { held = l.h; first = l.first; second = l.second; third = l.third }) l.out l.taken l.told l.invariant c.loop-taken-test.true c.if-out-told.false k.result k.new.first k.new.second k.new.third k.ensures (record { first = k.auto.first ∙ l.invariant.rooms.first; second = k.auto.second ∙ l.invariant.rooms.second; third = k.auto.third ∙ l.invariant.rooms.third }), (record { first = k.auto.first ∙ l.invariant.rooms.first; second = k.auto.second ∙ l.invariant.rooms.second; third = k.auto.third ∙ l.invariant.rooms.third }))
+    let k = c.cut-taken in
+    (waits_served c.longest_answer-most.result (state_of g.lines.now) g.bytes.now g.out.now (state_of l.lines) l.out l.taken l.told l.invariant.0 c.loop-taken-test.true c.if-out-told.false (record { held = counts_in k.new.self; taken = k.result }) k.new.self.first.bytes.now k.new.self.second.bytes.now k.new.self.third.bytes.now k.ensures.cuts c.if-lines-lt3.true)
 
 pub overflow_add-told : goal.overflow_add-told
 overflow_add-told c =
     let g = c.args in
     let l = c.loop-taken in
-    let k = c.cut-p in
+    let k = c.cut-taken in
     let a = c.answer_held-told in
-    let f = r_fits c.longest_answer-most.result (record { held = g.held; first = g.first.now; second = g.second.now; third = g.third.now }) g.bytes.now g.out.now (record { held = l.h; first = l.first; second = l.second; third = l.third }) l.out l.taken l.told l.invariant c.loop-taken-test.true c.if-out-told.false k.result k.new.first k.new.second k.new.third k.ensures c.if-k-lt3.false a.result a.new.out a.ensures a.auto.out in
-    record { fits = omega (arith, f, l.invariant.same, c.well_formed.1.1.1.1.1.0.0) }
+    let f = r_fits c.longest_answer-most.result (state_of g.lines.now) g.bytes.now g.out.now (state_of l.lines) l.out l.taken l.told l.invariant.0 c.loop-taken-test.true c.if-out-told.false (record { held = counts_in k.new.self; taken = k.result }) k.new.self.first.bytes.now k.new.self.second.bytes.now k.new.self.third.bytes.now k.ensures.cuts c.if-lines-lt3.false a.result a.new.out a.ensures a.auto.out in
+    record { fits = omega (arith, f, l.invariant.0.same, c.well_formed.1.1.0.0) }
 
 pub loop-taken-smaller : goal.loop-taken-smaller
 loop-taken-smaller c =
     let g = c.args in
     let l = c.loop-taken in
-    let k = c.cut-p in
-    let f = taken_some c.longest_answer-most.result (record { held = g.held; first = g.first.now; second = g.second.now; third = g.third.now }) g.bytes.now g.out.now (record { held = l.h; first = l.first; second = l.second; third = l.third }) l.out l.taken l.told l.invariant c.loop-taken-test.true c.if-out-told.false k.result k.new.first k.new.second k.new.third k.ensures in
+    let k = c.cut-taken in
+    let f = taken_some c.longest_answer-most.result (state_of g.lines.now) g.bytes.now g.out.now (state_of l.lines) l.out l.taken l.told l.invariant.0 c.loop-taken-test.true c.if-out-told.false (record { held = counts_in k.new.self; taken = k.result }) k.new.self.first.bytes.now k.new.self.second.bytes.now k.new.self.third.bytes.now k.ensures.cuts in
     omega (arith, f, c.loop-taken-test.true)
 
 pub loop-taken-preserved : goal.loop-taken-preserved
 loop-taken-preserved c =
     let g = c.args in
     let l = c.loop-taken in
-    let k = c.cut-p in
+    let k = c.cut-taken in
     let a = c.answer_held-told in
-    serving_next c.longest_answer-most.result (record { held = g.held; first = g.first.now; second = g.second.now; third = g.third.now }) g.bytes.now g.out.now (record { held = l.h; first = l.first; second = l.second; third = l.third }) l.out l.taken l.told l.invariant c.loop-taken-test.true c.if-out-told.false k.result k.new.first k.new.second k.new.third k.ensures c.if-k-lt3.false a.result a.new.out a.ensures a.auto.out c.start-h.result c.start-h.ensures (record { first = k.auto.first ∙ l.invariant.rooms.first; second = k.auto.second ∙ l.invariant.rooms.second; third = k.auto.third ∙ l.invariant.rooms.third }) (taken_far c.longest_answer-most.result (record { held = g.held; first = g.first.now; second = g.second.now; third = g.third.now }) g.bytes.now g.out.now (record { held = l.h; first = l.first; second = l.second; third = l.third }) l.out l.taken l.told l.invariant c.loop-taken-test.true c.if-out-told.false k.result k.new.first k.new.second k.new.third k.ensures)
-
-pub shape_of-first : goal.shape_of-first
-shape_of-first c =
-    let g = c.args in
-    let l = c.loop-taken in
-    l.invariant.rooms.first ∙ sym (is_ready_lem (record { held = g.held; first = g.first.now; second = g.second.now; third = g.third.now }) g.out.now l.invariant.ready).rooms.first
-
-pub shape_of-second : goal.shape_of-second
-shape_of-second c =
-    let g = c.args in
-    let l = c.loop-taken in
-    l.invariant.rooms.second ∙ sym (is_ready_lem (record { held = g.held; first = g.first.now; second = g.second.now; third = g.third.now }) g.out.now l.invariant.ready).rooms.second
-
-pub shape_of-third : goal.shape_of-third
-shape_of-third c =
-    let g = c.args in
-    let l = c.loop-taken in
-    l.invariant.rooms.third ∙ sym (is_ready_lem (record { held = g.held; first = g.first.now; second = g.second.now; third = g.third.now }) g.out.now l.invariant.ready).rooms.third
+    let e = c.clear.ensures in
+    let p : Progress = record { held = counts_in k.new.self; taken = k.result } in
+    let f = taken_far c.longest_answer-most.result (state_of g.lines.now) g.bytes.now g.out.now (state_of l.lines) l.out l.taken l.told l.invariant.0 c.loop-taken-test.true c.if-out-told.false p k.new.self.first.bytes.now k.new.self.second.bytes.now k.new.self.third.bytes.now k.ensures.cuts in (
+      rw (e.first, e.second, e.third) (serving_next c.longest_answer-most.result (state_of g.lines.now) g.bytes.now g.out.now (state_of l.lines) l.out l.taken l.told l.invariant.0 c.loop-taken-test.true c.if-out-told.false p k.new.self.first.bytes.now k.new.self.second.bytes.now k.new.self.third.bytes.now k.ensures.cuts c.if-lines-lt3.false a.result a.new.out a.ensures a.auto.out _ e.cleared k.ensures.rooms f),
+      (e.same.0 ∙ k.ensures.same.0 ∙ l.invariant.1.0, e.same.1 ∙ k.ensures.same.1 ∙ l.invariant.1.1, e.same.2 ∙ k.ensures.same.2 ∙ l.invariant.1.2),
+    )
 
 pub shape_of-out : goal.shape_of-out
-shape_of-out c = c.loop-taken.invariant.same
+shape_of-out c = c.loop-taken.invariant.0.same
 
-pub returns : goal.returns
-returns c =
+pub returns-clause-served : goal.returns-clause-served
+returns-clause-served c =
     let g = c.args in
     let l = c.loop-taken in
-    rw c.so_far-2.ensures (stops_ended c.longest_answer-most.result (record { held = g.held; first = g.first.now; second = g.second.now; third = g.third.now }) g.bytes.now g.out.now (record { held = l.h; first = l.first; second = l.second; third = l.third }) l.out l.taken l.told l.invariant c.loop-taken-test.false)
+    (stops_ended c.longest_answer-most.result (state_of g.lines.now) g.bytes.now g.out.now (state_of l.lines) l.out l.taken l.told l.invariant.0 c.loop-taken-test.false)
