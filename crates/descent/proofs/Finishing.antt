@@ -380,7 +380,7 @@ module _ (mode : Mode) (p top : ℕ) (negative : Bool) (w : Window) (before afte
   pub hole_ready : Room p (length after) × (0 < place) × (place ≤ 2 * most_exponent)
   hole_ready = (room_after, place_some, place_near)
 
-  left_run : (by : ℕ) (more : Bool) → 2 ^ (64 * length before) ≤ whole w.carry after w.guard → {exit : List ℕ} {r : Placed}
+  left_run : (by : Mode) (more : Bool) → 2 ^ (64 * length before) ≤ whole w.carry after w.guard → {exit : List ℕ} {r : Placed}
       → r ≡ rounded_placed by p negative place w.carry after w.guard more → exit ≡ rounded_limbs by p negative place w.carry after w.guard more
       → Left p (rounded (way by negative) p (place - 1) negative (2 * whole w.carry after w.guard + bit more)) exit r
   left_run by more h a b = run_left by p negative place w.carry after w.guard more room_after lim end.fits.guard_fits place_some place_near (rw e.size h) a b
