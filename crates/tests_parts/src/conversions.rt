@@ -7,23 +7,19 @@ use std::io::Write;
 use vectors::{Fields, LIMB_ROOM, RefusalFields};
 
 // The pattern of +infinity; above it, the sign's bit apart, stand those of NaNs.
-const INFINITY: u64 = 9218868437227405312;
+const INFINITY: u64 = 0x7ff0_0000_0000_0000;
 
 // Printed for a NaN, which no answer is.
-const A_NAN: u64 = 9221120237041090560;
+const A_NAN: u64 = 0x7ff8_0000_0000_0000;
 
 fn bits_of(x: f64) -> u64 {
-    if x != x {
-        return A_NAN;
-    }
-    f64::to_bits(x)
+    if x.is_nan() { A_NAN } else { x.to_bits() }
 }
 
-// The double of a pattern; for every NaN's pattern the NaN that the division gives.
+// The double of a pattern; one NaN for every NaN's pattern.
 fn double_of(bits: u64) -> f64 {
-    if INFINITY < bits % 9223372036854775808 {
-        let zero: f64 = 0.0;
-        return zero / zero;
+    if INFINITY < bits % 0x8000_0000_0000_0000 {
+        return f64::NAN;
     }
     f64::from_bits(bits)
 }
