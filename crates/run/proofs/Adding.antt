@@ -1,4 +1,5 @@
--- Laws of `Added`, `Subtracted` and `Reversed`: where nothing is left to add, and that two answers that meet the same promise agree. Assumes nothing.
+-- Laws of `Added`, `Subtracted` and `Reversed`: two answers that meet the same promise agree, and what each says of the whole target.
+-- Assumes nothing.
 use mathlib.Core.Path.{◌≡◌, refl, sym, ap, ◌∙◌}
 use mathlib.Core.Bool.{Bool}
 use mathlib.Core.List.{List, [], ◌++◌}
@@ -16,53 +17,6 @@ use Rattle.limb.proofs.Carry.{sum_unique, difference_unique}
 use Rattle.limb.proofs.Value.{value_nil, value_take, value_set, value_append, value_split, value_lt, value_unique, below_part, value_kept}
 use Rattle.run.specs.Sum.{LimbsAdded, Added, Subtracted, Reversed, AddedAt, SubtractedAt}
 use Rattle.parts.proofs.Parts.{part_is, drop_put}
-
--- before any limb of the operand is added, the carry k stands at the bottom
-pub none_added : (B : ℕ) (t o : List ℕ) (k : ℕ) → value_in B t + B ^ 0 * k ≡ value_in B t + value_in B (take 0 o) + k
-none_added B t o k = rw (pow-zero, value_nil) (omega arith)
-
--- into no limbs: the carry goes straight out
-pub nothing_added : (o : List ℕ) (carry : Bool) → Added [] o carry [] carry
-nothing_added o carry = record { same_length = refl; value = none_added (2 ^ 64) [] o (bit carry) }
-
-pub nothing_subtracted : (o : List ℕ) (borrow : Bool) → Subtracted [] o borrow [] borrow
-nothing_subtracted o borrow = record { same_length = refl; value = sym (none_added (2 ^ 64) [] o (bit borrow)) }
-
--- limb i of t becomes s with the carry out n, which are worth that limb, the operand's limb x and the carry in k
-limb_value : (B : ℕ) (t o : List ℕ) (i k x s n : ℕ) → i < length t → x ≡ get_or o i 0 → s + B * n ≡ get_or t i 0 + x + k
-    → value_in B (set t i s) + value_in B (take i o) + B ^ (i + 1) * n ≡ value_in B t + value_in B (take (i + 1) o) + B ^ i * k
-limb_value B t o i k x s n h ex e =
-    rw (add-one i, pow-succ' B i, value_take B i o)
-    (omega (arith, ap (λ (m : ℕ). B ^ i * m) e, ap (λ (m : ℕ). B ^ i * m) ex, value_set B t i s h))
-
--- so limb i is added
-pub limb_added : (t o : List ℕ) (k : Bool) (i x s : ℕ) (n : Bool) → i < length t → x ≡ get_or o i 0 → s + 2 ^ 64 * bit n ≡ get_or t i 0 + x + bit k
-    → LimbsAdded i (i + 1) t o k (set t i s) n
-limb_added t o k i x s n h ex e = record { same_length = length-set t i s; value = limb_value (2 ^ 64) t o i (bit k) x s (bit n) h ex e }
-
--- the values, where limbs i to j - 1 are added and then those from j on
-limbs_joined : (low mid high t a b top middle bottom : ℕ) → a + low + middle ≡ t + mid + bottom → b + mid + top ≡ a + high + middle → b + low + top ≡ t + high + bottom
-limbs_joined low mid high t a b top middle bottom e f = omega arith
-
--- so one run of limbs is added on the other
-pub added_on : (o t a b : List ℕ) (i j n m : ℕ) (k p q : Bool) → n ≡ m → LimbsAdded i j t o k a p → LimbsAdded j n a o p b q → LimbsAdded i m t o k b q
-added_on o t a b i j n m k p q e u w = record {
-  same_length = w.same_length ∙ u.same_length;
-  value = rw e at (limbs_joined (value_in (2 ^ 64) (take i o)) (value_in (2 ^ 64) (take j o)) _ _ _ _ _ ((2 ^ 64) ^ j * bit p) _ u.value w.value);
-}
-
-module _ (t₀ o : List ℕ) (first : Bool) where
-  -- before any limb is added
-  pub none_added_yet : LimbsAdded 0 0 t₀ o first t₀ first
-  none_added_yet = record { same_length = refl; value = refl }
-
-  -- the lowest i limbs are added
-  lowest_value : (t : List ℕ) (k : Bool) (i : ℕ) → LimbsAdded 0 i t₀ o first t k
-      → value_in (2 ^ 64) t + (2 ^ 64) ^ i * bit k ≡ value_in (2 ^ 64) t₀ + value_in (2 ^ 64) (take i o) + bit first
-  lowest_value t k i a = omega (arith, rw (pow-zero, value_nil) at a.value)
-
-  pub all_added : (t : List ℕ) (k : Bool) (i : ℕ) → i ≡ length t₀ → LimbsAdded 0 i t₀ o first t k → Added t₀ o first t k
-  all_added t k i e a = record { same_length = a.same_length; value = rw e at (lowest_value t k i a) }
 
 -- two answers that meet the promise of a sum, or of a difference either way, are one
 module _ (xs ys : List ℕ) (p q : Bool) (hx : Below (2 ^ 64) xs) (hy : Below (2 ^ 64) ys) (before operand : List ℕ) (carry : Bool) where
@@ -128,29 +82,3 @@ module _ (start : ℕ) (before operand : List ℕ) (carry : Bool) (after : List 
   subtracted_at_value a =
       raised_difference (B ^ start) (B ^ (length before - start)) _ _ _ _ (bit carry) (bit out) _ _ _ (value_split B start before) (value_kept B start before after a.below) (pow_split B start (length before) fits)
       (rw length-drop at a.part.value)
-
--- the lowest n limbs of the operand: those below limb i, and the others
-pub limbs_from : (B : ℕ) (o : List ℕ) (i n : ℕ) → i ≤ n → n ≤ length o → value_in B (take n o) ≡ value_in B (take i o) + B ^ i * value_in B (take (n - i) (drop i o))
-limbs_from B o i n hi hn =
-    ap (λ (m : ℕ). value_in B (take m o)) (sym (add-sub_of_le hi)) ∙ ap (value_in B) (take-add i (n - i) o) ∙ value_append B (take i o) (take (n - i) (drop i o))
-    ∙ ap (λ (m : ℕ). value_in B (take i o) + B ^ m * value_in B (take (n - i) (drop i o))) (length-take-le i o (omega arith))
-
-sum_joined : (P all low high first k t top : ℕ) → t + P * k ≡ all + low + first → top ≡ t + P * (high + k) → top ≡ all + (low + P * high) + first
-sum_joined P all low high first k t top inv e = omega (arith, inv, e)
-
--- the limbs below limb i have been added, and then those from there on, into that part of the target
-module _ (t₀ o : List ℕ) (first : Bool) (t : List ℕ) (k : Bool) (i : ℕ) (hi : i ≤ length t₀) (ho : length t₀ ≤ length o) (a : LimbsAdded 0 i t₀ o first t k) where
-  within : i ≤ length t
-  within = omega (arith, hi, a.same_length)
-
-  rest_value : (after : List ℕ) (out : Bool) → AddedAt i t (drop i o) k after out
-      → value_in (2 ^ 64) after + (2 ^ 64) ^ length t₀ * bit out ≡ value_in (2 ^ 64) t₀ + value_in (2 ^ 64) (take (length t₀) o) + bit first
-  rest_value after out r =
-      rw (limbs_from (2 ^ 64) o i (length t₀) hi ho)
-      (sum_joined ((2 ^ 64) ^ i) _ _ _ (bit first) (bit k) (value_in (2 ^ 64) t) _ (lowest_value t₀ o first t k i a) (rw a.same_length at (added_at_value i t (drop i o) k after out within r)))
-
-  pub rest_added : (part : List ℕ) (out : Bool) → Added (drop i t) (drop i o) k part out → Added t₀ o first (put_mid i (length t - i) t part) out
-  rest_added part out r = record {
-    same_length = same_len_mid i (length t - i) t part (rw (part_is t i) r.same_length) ∙ a.same_length;
-    value = rest_value _ out record { below = take_put i (length t - i) t part within; part = rw (drop_put t part i within) r };
-  }

@@ -1,6 +1,7 @@
 // One run of limbs added into another, or taken off it.
 #![tactic(auto)]
 
+mod walk; // walk.rt: one run stepped through with another
 mod sum; // sum.rt: one run added into another
 mod difference; // difference.rt: one run taken off another
 

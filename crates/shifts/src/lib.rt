@@ -1,7 +1,8 @@
 // Bits of a run of limbs at any offset, and moves by bits.
 #![tactic(auto)]
 
-ghost use Rattle.std.specs.Prelude.{◌≡◌, ◌+◌, ◌-◌, ◌*◌, ◌/◌, ◌%◌, ◌^◌, ◌≤◌, ◌<◌, eqb, length};
+ghost use Rattle.std.specs.Prelude.{◌≡◌, ◌+◌, ◌-◌, ◌*◌, ◌/◌, ◌%◌, ◌^◌, ◌≤◌, ◌<◌, ◌==◌, eqb, length, take};
+ghost use Rattle.std.specs.List.{list_all};
 ghost use Rattle.limb.specs.Value.{value_of};
 ghost use Rattle.shifts.specs.LowLimbs.{LowLimbs};
 
@@ -46,21 +47,9 @@ fn windows_into(target: &mut [u64], s: &[u64], bits: usize)
     requires { bits < 64 }
     ensures { LowLimbs (length target.old) (value_of s.now / 2 ^ bits) target.new }
 {
-    let mut i = 0;
-    while i < target.len() {
-        target[i] = window_at(s, i, bits);
-        i += 1;
+    for (i, limb) in target.iter_mut().enumerate() {
+        *limb = window_at(s, i, bits);
     }
-}
-
-// How many of `room` limbs come from two limbs each of a run of `count`.
-fn pairs(room: usize, count: usize) -> usize
-    ensures { (result ≤ room) × (result ≤ count - 1) }
-{
-    if room < count {
-        return room;
-    }
-    if count == 0 { 0 } else { count - 1 }
 }
 
 // The run moved down by less than a limb. As far as its limbs meet in pairs there is no end to look for, and the loop takes several limbs a turn.
@@ -70,13 +59,11 @@ fn move_into(target: &mut [u64], s: &[u64], bits: usize)
     requires { bits < 64 }
     ensures { LowLimbs (length target.old) (value_of s.now / 2 ^ bits) target.new }
 {
-    let end = pairs(target.len(), s.len());
-    let mut i = 0;
-    while i < end {
+    let end = target.len().min(s.len().saturating_sub(1));
+    for i in 0..end {
         target[i] = (s[i] >> bits) | ((s[i + 1] << 1) << (63 - bits));
-        i += 1;
     }
-    windows_into(&mut target[i..], part_from(s, i), bits)
+    windows_into(&mut target[end..], part_from(s, end), bits)
 }
 
 // The run moved down by k bits, into the whole target. A few limbs go window by window: what move_into does before its loop starts would
@@ -122,11 +109,16 @@ fn raised_at(s: &[u64], i: usize, k: usize) -> u64
 pub fn shift_up_into(target: &mut [u64], s: &[u64], k: usize)
     ensures { LowLimbs (length target.old) (value_of s.now * 2 ^ k) target.new }
 {
-    let mut i = 0;
-    while i < target.len() {
-        target[i] = raised_at(s, i, k);
-        i += 1;
+    for (i, limb) in target.iter_mut().enumerate() {
+        *limb = raised_at(s, i, k);
     }
+}
+
+// Whether the lowest limbs, so many of them, are all 0. Stops at the first that is not.
+fn zeros_below(s: &[u64], limbs: usize) -> bool
+    ensures { result ≡ list_all (λ limb. limb == 0) (take limbs s.now) }
+{
+    s.iter().take(limbs).all(|limb| *limb == 0)
 }
 
 // Whether the low k bits are all 0. Looks from the lowest limb up and stops at the first that is not 0.
@@ -134,16 +126,6 @@ pub fn low_is_zero(s: &[u64], k: usize) -> bool
     ensures { result ≡ eqb (value_of s.now % 2 ^ k) 0 }
 {
     let limbs = k / 64;
-    let mut i = 0;
-    while i < limbs {
-        if s.len() <= i {
-            return true;
-        }
-        if s[i] != 0 {
-            return false;
-        }
-        i += 1;
-    }
     let cut = 1 << (k % 64);
-    limb_at(s, limbs) % cut == 0
+    zeros_below(s, limbs) && limb_at(s, limbs) % cut == 0
 }

@@ -1,12 +1,8 @@
 -- `shifts::shift_up_into` is right since limb i of what is moved up by k bits is written at i. Assumes nothing.
-use Prim.Native.Nat.{◌-◌, ◌*◌, ◌^◌, ◌≤◌}
-use lib.ListN.{length}
+use Rattle.std.proofs.Common.{◌*◌, ◌^◌}
 use Rattle.limb.specs.Value.{value_in}
 use Rattle.shifts.proofs.Windows.{WrittenTo}
 use Rattle.shifts.proofs.shift_up_into.Given as goal
 
 abbrev pub invariant-loop-i : goal.invariant-loop-i
-invariant-loop-i l = (l.i ≤ length l.initial.target) × WrittenTo l.i (value_in (2 ^ 64) l.s * 2 ^ l.k) l.initial.target l.target
-
-abbrev pub decreases-loop-i : goal.decreases-loop-i
-decreases-loop-i l = length l.target - l.i
+invariant-loop-i l = WrittenTo l.i (value_in (2 ^ 64) l.s * 2 ^ l.k) l.fn.target l.target

@@ -1,5 +1,5 @@
--- `run::add_from` is right since the part of the operand that is added is the operand without its limbs below the start. Assumes nothing.
+-- `run::add_from` is right since it is the walk whose column says what it promises. Assumes nothing.
 use Rattle.run.proofs.sum.add_from.Goals as goal
 
 pub returns : goal.returns
-returns c = rw c.part_from.ensures at c.add_into.ensures
+returns c = record { same_length = c.step_from.ensures.same_length; value = c.step_from.ensures.value }
