@@ -36,7 +36,7 @@ fn finish<W: Write>(lines: &Lines, out: &mut [u8], output: &mut W) -> io::Result
     output.write_all(&out[..told])
 }
 
-// Piece after piece, to the end of the input or to the first write that fails. A read that fails ends the input.
+// Piece after piece, in fixed memory, to the end of the input or to the first write that fails. A read that fails ends the input.
 fn run<R: Read, W: Write>(input: &mut R, output: &mut W) -> io::Result<()> {
     let mut piece = [0u8; PIECE_ROOM];
     let mut first = [0u8; LINE_ROOM];
@@ -44,6 +44,7 @@ fn run<R: Read, W: Write>(input: &mut R, output: &mut W) -> io::Result<()> {
     let mut third = [0u8; LINE_ROOM];
     let mut out = [0u8; OUT_ROOM];
     let mut lines = Lines::new(&mut first, &mut second, &mut third);
+    // Nothing says that an input ends, so a loop to its end is counted.
     for _ in 0..u64::MAX {
         let got = input.read(&mut piece).unwrap_or(0);
         if got == 0 {

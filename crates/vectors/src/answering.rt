@@ -26,6 +26,7 @@ pub fn answer_lines<R: Read + Drop, W: Write, F: FnMut(&[u8], &mut Vec<u8>) -> i
     let mut input = BufReader::new(alloc, input)?;
     let mut line = Vec::new(alloc);
     let mut answer = Vec::new(alloc);
+    // Nothing says that an input ends, so a loop to its end is counted.
     for _ in 0..u64::MAX {
         let Some(whole) = next_line(&mut input, &mut line)? else {
             break;

@@ -1,4 +1,7 @@
 // Fields of an answer, each in so many digits.
+ghost use Rattle.std.specs.Prelude.{Some};
+ghost use Rattle.vectors.specs.Printed.{refusal_text, number_text};
+
 use checks::{Number, Refusal};
 use std::io::Write;
 use std::{fmt, io};
@@ -8,6 +11,8 @@ use std::{fmt, io};
 pub struct RefusalFields(pub Refusal);
 
 impl fmt::Display for RefusalFields {
+    ghost output = { λ r. Some (refusal_text r.0) };
+
     fn fmt<W: fmt::Write>(&self, f: &mut fmt::Formatter<W>) -> fmt::Result {
         let Refusal { rule, place } = self.0;
         write!(f, "{rule:02x}{place:02x}")
@@ -19,6 +24,8 @@ impl fmt::Display for RefusalFields {
 pub struct NumberFields(pub Number);
 
 impl fmt::Display for NumberFields {
+    ghost output = { λ x. Some (number_text x.0) };
+
     fn fmt<W: fmt::Write>(&self, f: &mut fmt::Formatter<W>) -> fmt::Result {
         let Number {
             negative,

@@ -8,6 +8,7 @@ use checks::{Kind, Number};
 // The most limbs that a number of a line has.
 pub const LIMB_ROOM: usize = 80;
 
+// A lowercase digit: `char::to_digit` takes capitals too.
 #[tactic(auto, unfolding(crate::specs::Fields::digit_of))]
 fn digit(b: u8) -> u64
     ensures { (result ≡ digit_of b) × (result < 16) }
@@ -25,6 +26,7 @@ fn digit_at(line: &[u8], at: usize) -> u64
     digit(line.get(at).copied().unwrap_or(0))
 }
 
+// `Kind` and `From` are both of other crates, so no impl of one for the other can stand here.
 #[tactic(auto, unfolding(crate::specs::Fields::kind_of))]
 fn kind_of(k: u8) -> Kind
     ensures { result ≡ kind_of k }

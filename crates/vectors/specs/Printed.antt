@@ -1,0 +1,26 @@
+-- What is printed for fields. Definitions only.
+use Rattle.std.specs.Prelude.{ℕ, ◌-◌, ◌^◌, List, [], ◌++◌, false, cond}
+use Rattle.std.specs.Int.{w32, cast_unsigned}
+use Rattle.std.specs.Fmt.{padded_integral, format_spec, radix_digits}
+use Rattle.checks.specs.declared.Kind.{Kind}
+use Rattle.checks.specs.declared.Kind.TheVariants.{Regular, Zero}
+use Rattle.checks.specs.declared.Number.{Number}
+use Rattle.checks.specs.declared.Refusal.{Refusal}
+
+-- a number in so many lowercase hexadecimal digits, or in as many more as it takes
+abbrev pub in_digits : ℕ → ℕ → List ℕ
+in_digits n v = padded_integral (format_spec 32 0 4 n (2 ^ 64 - 1)) false [] (radix_digits 16 false v)
+
+-- rule and place
+abbrev pub refusal_text : Refusal → List ℕ
+refusal_text r = in_digits 2 r.rule ++ in_digits 2 r.place
+
+-- 00 regular, 01 a zero
+abbrev pub kind_number : Kind → ℕ
+kind_number Regular = 0
+kind_number Zero = 1
+
+-- sign, kind, precision, exponent in two's complement
+abbrev pub number_text : Number → List ℕ
+number_text x =
+    in_digits 2 (cond x.negative 1 0) ++ (in_digits 2 (kind_number x.kind) ++ (in_digits 16 x.precision ++ in_digits 8 (cast_unsigned w32 x.exponent)))
