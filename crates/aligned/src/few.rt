@@ -9,8 +9,8 @@ ghost use Rattle.std.specs.Bool.{beq};
 ghost use Rattle.limb.specs.Value.{value_of};
 ghost use Rattle.checks.specs.Number.{operand_of};
 ghost use Rattle.twolimbs.specs.Two.{head_in};
-ghost use Rattle.checks.specs.Room.{Room};
-ghost use Rattle.wide.specs.Attempted.{Attempted};
+ghost use Rattle.descent.specs.Ready.{Room};
+ghost use Rattle.wide.specs.Attempted.{Attempts};
 ghost use Rattle.aligned.specs.Aligned.{Aligned};
 ghost use Rattle.aligned.specs.Few.{Few, AbsoluteDifference};
 
@@ -19,7 +19,7 @@ use checks::Number;
 use place::Placed;
 use rounding::Mode;
 use twolimbs::Head;
-use wide::{Attempt, nothing};
+use wide::Attempt;
 
 // A run of one or two limbs, at the top of two.
 fn at_top(l: &[u64]) -> Head
@@ -100,17 +100,17 @@ pub fn subtract(
     yl: &[u64],
     top: u64,
     target: &mut [u64],
-) -> Attempt
+) -> Option<Attempt>
     requires { Few (length target.old) × Aligned (operand_of x xl.now) (operand_of y yl.now) (length target.old) × (beq x.negative y.negative ≡ false) × (top ≡ (operand_of x xl.now).exponent) }
-    ensures { (length target.new ≡ length target.old) × (result.open ≡ false → (p : ℕ) → Room p (length target.old) → x.precision ≤ p → y.precision ≤ p → Attempted mode p (operand_of x xl.now) (operand_of y yl.now) target.new result.negative result.placed result.depth result.first result.second) }
+    ensures { (length target.new ≡ length target.old) × ((p : ℕ) → Room p (length target.old) → x.precision ≤ p → y.precision ≤ p → Attempts mode p (operand_of x xl.now) (operand_of y yl.now) target.new result) }
 {
     let n = target.len() as u64;
     if bounds::is_low(top, n) {
-        return nothing();
+        return None;
     }
     let d = difference(xl, yl);
     if (d.high == 0) & (d.low == 0) {
-        return cancelled(mode, x.negative, y.negative, target);
+        return Some(cancelled(mode, x.negative, y.negative, target));
     }
     let r = twolimbs::normalize(false, d.high, d.low, top);
     write(target, r.high, r.low);
@@ -119,12 +119,11 @@ pub fn subtract(
         exponent: r.exponent,
         ternary: 0,
     };
-    Attempt {
-        open: false,
+    Some(Attempt {
         negative: x.negative != d.swapped,
-        placed: placed,
+        placed,
         depth: n,
         first: n,
         second: n,
-    }
+    })
 }

@@ -4,7 +4,7 @@
 //     second   [ alike ][ v ]
 //     target            [ u - v, or v - u ]
 //
-ghost use Rattle.std.specs.Prelude.{◌≡◌, false, length};
+ghost use Rattle.std.specs.Prelude.{◌≡◌, length};
 ghost use Rattle.numbers.specs.Operand.{Operand};
 ghost use Rattle.checks.specs.Room.{Room};
 ghost use Rattle.wide.specs.Attempted.{Attempted};
@@ -26,14 +26,13 @@ pub fn subtract_lower(
     target: &mut [u64],
 ) -> Attempt
     requires { Room p (length target.old) × (length target.old ≡ 1) × Lowered u v top }
-    ensures { (result.open ≡ false) × (length target.new ≡ length target.old) × ((x y : Operand) → Lower x y u v top → negative ≡ x.negative → Attempted mode p x y target.new result.negative result.placed result.depth result.first result.second) }
+    ensures { (length target.new ≡ length target.old) × ((x y : Operand) → Lower x y u v top → negative ≡ x.negative → Attempted mode p x y target.new result.negative result.placed result.depth result.first result.second) }
 {
     let swapped = u < v;
     let d = either(swapped, u, v) - either(swapped, v, u);
     target[0] = d;
     if d == 0 {
         return Attempt {
-            open: false,
             negative: reports::zero_sign(mode, negative, !negative),
             placed: Placed {
                 rule: 0,
@@ -48,9 +47,8 @@ pub fn subtract_lower(
     let sign = negative != swapped;
     let placed = place::round_fit(sign, false, target, 0, false, top - 192, p, mode);
     Attempt {
-        open: false,
         negative: sign,
-        placed: placed,
+        placed,
         depth: 2,
         first: 2,
         second: 2,

@@ -14,8 +14,8 @@ ghost use Rattle.numbers.specs.Operand.{Operand, WellFormed};
 ghost use Rattle.rounding.specs.declared.Mode.{Mode};
 ghost use Rattle.checks.specs.Number.{operand_of};
 ghost use Rattle.place.specs.Placed.{run_rule};
-ghost use Rattle.checks.specs.Room.{Room};
-ghost use Rattle.wide.specs.Attempted.{Attempted};
+ghost use Rattle.descent.specs.Ready.{Room};
+ghost use Rattle.wide.specs.Attempted.{Attempted, Attempts};
 ghost use Rattle.aligned.specs.Aligned.{Aligned, Cancelling, Alike, Reducible, Subtracted, Standing};
 
 mod few; // few.rt: one or two limbs, by value
@@ -26,7 +26,7 @@ use choice::either;
 pub use level::subtract_lower;
 use place::Placed;
 use rounding::Mode;
-use wide::{Attempt, nothing};
+use wide::Attempt;
 
 // How many limbs at the top of two runs of one length are alike.
 fn alike(a: &[u64], b: &[u64]) -> usize
@@ -98,9 +98,8 @@ fn round_whole(
         mode,
     );
     Attempt {
-        open: false,
-        negative: negative,
-        placed: placed,
+        negative,
+        placed,
         depth: n,
         first: n,
         second: n,
@@ -116,9 +115,8 @@ fn settle_whole(negative: bool, skipped: u64, top: u64, p: u64, target: &mut [u6
     let unit = top - 64 * (n + skipped + 1);
     let placed = place::round_exact(target, unit, p);
     Attempt {
-        open: false,
-        negative: negative,
-        placed: placed,
+        negative,
+        placed,
         depth: n,
         first: n,
         second: n,
@@ -137,9 +135,8 @@ fn cancelled(mode: Mode, a: bool, b: bool, target: &mut [u64]) -> Attempt
         ternary: 0,
     };
     Attempt {
-        open: false,
         negative: reports::zero_sign(mode, a, b),
-        placed: placed,
+        placed,
         depth: n,
         first: n,
         second: n,
@@ -156,27 +153,27 @@ fn subtract<'a>(
     top: u64,
     p: u64,
     target: &mut [u64],
-) -> Attempt
+) -> Option<Attempt>
     requires { Room p (length target.old) × Aligned (operand_of x xl.now) (operand_of y yl.now) (length target.old) × (beq x.negative y.negative ≡ false) × (top ≡ (operand_of x xl.now).exponent) }
-    ensures { (length target.new ≡ length target.old) × (result.open ≡ false → Attempted mode p (operand_of x xl.now) (operand_of y yl.now) target.new result.negative result.placed result.depth result.first result.second) }
+    ensures { (length target.new ≡ length target.old) × Attempts mode p (operand_of x xl.now) (operand_of y yl.now) target.new result }
 {
     let n = target.len();
     if bounds::is_low(top, n as u64) {
-        return nothing();
+        return None;
     }
     let z = alike(xl, yl);
     if z == n {
-        return cancelled(mode, x.negative, y.negative, target);
+        return Some(cancelled(mode, x.negative, y.negative, target));
     }
     let swapped = is_second_larger(xl, yl, z);
     subtract_in_order(target, z, swapped, xl, yl);
     if target[n - 1] == 0 {
-        return nothing();
+        return None;
     }
     if (x.precision <= p) & (y.precision <= p) {
-        return settle_whole(x.negative != swapped, z as u64, top, p, target);
+        return Some(settle_whole(x.negative != swapped, z as u64, top, p, target));
     }
-    round_whole(mode, x.negative != swapped, false, z as u64, top, p, target)
+    Some(round_whole(mode, x.negative != swapped, false, z as u64, top, p, target))
 }
 
 // Two operands of unlike signs: one or two limbs by value where all digits of the difference are kept, else limb by limb.
@@ -189,9 +186,9 @@ fn subtract_any<'a>(
     top: u64,
     p: u64,
     target: &mut [u64],
-) -> Attempt
+) -> Option<Attempt>
     requires { Room p (length target.old) × Aligned (operand_of x xl.now) (operand_of y yl.now) (length target.old) × (beq x.negative y.negative ≡ false) × (top ≡ (operand_of x xl.now).exponent) }
-    ensures { (length target.new ≡ length target.old) × (result.open ≡ false → Attempted mode p (operand_of x xl.now) (operand_of y yl.now) target.new result.negative result.placed result.depth result.first result.second) }
+    ensures { (length target.new ≡ length target.old) × Attempts mode p (operand_of x xl.now) (operand_of y yl.now) target.new result }
 {
     if few::are_few(x.precision, y.precision, p, target.len()) {
         return few::subtract(mode, x, xl, y, yl, top, target);
@@ -208,17 +205,17 @@ pub fn attempt<'a>(
     yl: &'a [u64],
     p: u64,
     target: &mut [u64],
-) -> Attempt
+) -> Option<Attempt>
     requires { WellFormed (operand_of x xl.now) × ((operand_of x xl.now).is_zero ≡ false) × WellFormed (operand_of y yl.now) × ((operand_of y yl.now).is_zero ≡ false) × (x.exponent ≡ y.exponent) × (length xl.now ≡ length target.old) × (length yl.now ≡ length target.old) × Room p (length target.old) }
-    ensures { (length target.new ≡ length target.old) × (result.open ≡ false → Attempted mode p (operand_of x xl.now) (operand_of y yl.now) target.new result.negative result.placed result.depth result.first result.second) }
+    ensures { (length target.new ≡ length target.old) × Attempts mode p (operand_of x xl.now) (operand_of y yl.now) target.new result }
 {
     let top = checks::counted_exponent(x.exponent);
     if x.negative != y.negative {
         return subtract_any(mode, x, xl, y, yl, top, p, target);
     }
     if bounds::is_high(top) {
-        return nothing();
+        return None;
     }
     let carry = fused::sum(target, xl, yl);
-    round_whole(mode, x.negative, carry, 0, top, p, target)
+    Some(round_whole(mode, x.negative, carry, 0, top, p, target))
 }

@@ -2,6 +2,7 @@
 use mathlib.Core.Path.{◌≡◌, refl, sym, ap, ◌∙◌, subst}
 use mathlib.Core.Bool.{Bool, true, false, not, cond}
 use mathlib.Core.List.{List}
+use Rattle.std.specs.Prelude.{Some}
 use Prim.Native.Nat.{ℕ, ◌+◌, ◌-◌, ◌*◌, ◌/◌, ◌^◌, ◌≤◌, ◌<◌}
 use native.Mathlib.Omega.{arith}
 use lib.ListN.{length, get_or}
@@ -104,8 +105,8 @@ module _ (o : Mode) (negative : Bool) (p : ℕ) (pair : Pair) (first second : Li
   first_tests = let N : ℕ = first_of begun in k.tests p N (kept_rest p N 0 N k.rest k.long (kept_alone N) (k.told 0 N (kept_alone N))) k.positive
 
   -- it settles it
-  pub first_fills : begun.tail ≡ Empty → settled ≡ true → (exit : List ℕ) (r : Filled) → FrontFilled begun (not pair.same) 1 exit r → FillsBy o negative p pair first second exit r
-  first_fills empty yields exit r s closed = (
+  pub first_fills : begun.tail ≡ Empty → settled ≡ true → (exit : List ℕ) (r : Filled) → FrontFilled begun (not pair.same) 1 exit r → FillsBy o negative p pair first second exit (Some r)
+  first_fills empty yields exit r s = (
     rw s.depth_is near_one,
     stored_led p begun (not pair.same) 1 exit r s longer,
     λ x y h sign. stored_rounds p begun (not pair.same) 1 exit r s longer o x y (omega arith) near_one (λ l. absurd (omega arith)) (rounds x y h sign),
@@ -137,8 +138,8 @@ module _ (o : Mode) (negative : Bool) (p : ℕ) (pair : Pair) (first second : Li
     long_enough : p < size (first_of reading.front)
     long_enough = ((read offered.larger offered.other offered.holding).ends fixed).long
 
-    pub last_fills : settled ≡ false → (exit : List ℕ) (r : Filled) → FrontFilled reading.front false reading.columns exit r → FillsBy o negative p pair first second exit r
-    last_fills unsettled exit r s closed = (
+    pub last_fills : settled ≡ false → (exit : List ℕ) (r : Filled) → FrontFilled reading.front false reading.columns exit r → FillsBy o negative p pair first second exit (Some r)
+    last_fills unsettled exit r s = (
       rw s.depth_is near_enough,
       stored_led p reading.front false reading.columns exit r s long_enough,
       λ x y h sign. stored_rounds p reading.front false reading.columns exit r s long_enough o x y (some x y h) near_enough (λ l. left_open x y h sign) (rounds x y h),

@@ -43,7 +43,6 @@ pub record ReadOn (p : ℕ) (pair : Pair) (stop : ℕ) (x y : Operand) (r : Read
 -- the first column stands in the target, with what is told of it
 pub record FrontFilled (front : Front) (more : Bool) (depth : ℕ) (exit : List ℕ) (r : Filled) : Type 0 where
   pub limbs : exit ≡ front.limb ∷ []
-  pub closed : r.open ≡ false
   pub carry : r.carry ≡ front.carry
   pub guard : r.guard ≡ 0
   pub more_is : (t rest : ℕ) → TailIs front.tail t rest → r.more ≡ (more || not (eqb rest 0))

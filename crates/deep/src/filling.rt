@@ -10,7 +10,7 @@ use crate::reading::{is_settled, read_on};
 use front::Front;
 use rounding::Mode;
 use settle::Pair;
-use wide::{Filled, none};
+use wide::Filled;
 
 // The last column below which both operands have more than a digit.
 fn inner_of(pair: Pair) -> u64
@@ -33,11 +33,10 @@ fn filled(front: Front, more: bool, depth: u64, target: &mut [u64]) -> Filled
     let tail = front.tail;
     target[0] = front.limb;
     Filled {
-        open: false,
         carry: front.carry,
         guard: 0,
         more: more | descent::holds_more(tail),
-        depth: depth,
+        depth,
     }
 }
 
@@ -50,29 +49,29 @@ pub fn fill(
     first: &[u64],
     second: &[u64],
     target: &mut [u64],
-) -> Filled
+) -> Option<Filled>
     requires { Room p (length target.old) × Offered pair first.now second.now × (p ≤ 62) × Deep pair }
     ensures { (length target.new ≡ length target.old) × FillsBy mode negative p pair first.now second.now target.new result }
 {
     let stop = inner_of(pair);
     if !descent::is_inland(pair, stop) {
-        return none();
+        return None;
     }
     let u = first[first.len() - 1];
     let v = second[second.len() - 1];
     let begun = front::begin(pair.same, u, v >> pair.gap);
     let digits = front::digits_of(begun);
     if digits < p + 2 {
-        return none();
+        return None;
     }
     let x = front::rest_kept(begun, digits - p);
     if is_settled(settle::way_of(mode, negative), pair.same, x) {
-        return filled(begun, !pair.same, 1, target);
+        return Some(filled(begun, !pair.same, 1, target));
     }
     let r = read_on(p, pair, first, second, begun, stop);
     if !r.fixed {
-        return none();
+        return None;
     }
     let last = r.front;
-    filled(last, false, r.columns, target)
+    Some(filled(last, false, r.columns, target))
 }

@@ -2,6 +2,7 @@
 use mathlib.Core.Path.{◌≡◌, refl, sym, ap, ◌∙◌, subst}
 use mathlib.Core.Bool.{Bool, true, false, cond, ◌&&◌, true≢false}
 use mathlib.Core.List.{List}
+use Rattle.std.specs.Prelude.{Some}
 use Prim.Native.Nat.{ℕ, ◌+◌, ◌-◌, ◌*◌, ◌^◌, ◌≤◌, ◌<◌}
 use native.Mathlib.Omega.{arith}
 use borrow.Author.Tests.{le-leb}
@@ -56,7 +57,7 @@ used_in_order false e f u = (e ∙ u.0, f ∙ u.1)
 
 -- carry 0, more below: a run of n limbs with its guard
 abbrev run_of : ℕ → ℕ → Filled
-run_of n guard = record { «open» = false; carry = false; guard = guard; more = true; depth = n }
+run_of n guard = record { carry = false; guard = guard; more = true; depth = n }
 
 module _ (p : ℕ) (pair : Pair) (first before : List ℕ) (a : Alone p pair first before) where
   abbrev n : ℕ
@@ -102,8 +103,8 @@ module _ (p : ℕ) (pair : Pair) (first before : List ℕ) (a : Alone p pair fir
     size : length after ≡ n
     size = b.size ∙ a.long
 
-    fills : Fills p pair first second after (run_of n guard)
-    fills e o z w g = go pair.same refl
+    fills : Fills p pair first second after (Some (run_of n guard))
+    fills o z w g = go pair.same refl
       where
         go : (s : Bool) → pair.same ≡ s → Rounds o p z w after false guard true n
         go true s = rw (b.more s).1 (hollow_sum p pair first second before after a.room apart a.far prompt size lim o z w g s ((b.more s).0 ∙ sym read))
@@ -116,10 +117,10 @@ module _ (p : ℕ) (pair : Pair) (first before : List ℕ) (a : Alone p pair fir
     far_unit = unit_room p (length after) kept pair first second x a.offered.other h
 
     pub far_fit : run_rule p false after (pair.top - 64 * (length after + 1)) ≡ 0
-    far_fit = fit p pair first second after kept x a.offered.other h false (fills refl Nearest x a.offered.other h).led
+    far_fit = fit p pair first second after kept x a.offered.other h false (fills Nearest x a.offered.other h).led
 
     pub far_told : (mode : Mode) (negative : Bool) (z w : Operand) → Holding z w pair first second → negative ≡ z.negative → (swapped : Bool) {exit : List ℕ} {placed : Placed} {i j : ℕ}
         → placed ≡ rounded_placed mode p negative (pair.top - 64 * (length after + 1)) false after guard true → exit ≡ rounded_limbs mode p negative (pair.top - 64 * (length after + 1)) false after guard true
         → i ≡ cond swapped 0 n → j ≡ cond swapped n 0 → Attempted mode p z w exit negative placed n (cond swapped j i) (cond swapped i j)
     far_told mode negative z w g sign swapped c d e f =
-        in_order_told p pair first second after kept z w g mode (run_of n guard) (fills refl mode z w g) negative sign c d (used_in_order swapped e f (used_far n pair.gap (length first) (length second) (room_some p n a.room) a.long a.below))
+        in_order_told p pair first second after kept z w g mode (run_of n guard) (fills mode z w g) negative sign c d (used_in_order swapped e f (used_far n pair.gap (length first) (length second) (room_some p n a.room) a.long a.below))

@@ -6,14 +6,13 @@
 //
 #![tactic(auto)]
 
-ghost use Rattle.std.specs.Prelude.{◌≡◌, true, false, cond, ◌+◌, ◌*◌, ◌≤◌, ◌<◌, length};
-ghost use Rattle.numbers.specs.Operand.{Operand};
+ghost use Rattle.std.specs.Prelude.{◌≡◌, true, false, ◌+◌, ◌*◌, ◌≤◌, ◌<◌, length};
 ghost use Rattle.rounding.specs.Mode.{way};
 ghost use Rattle.location.specs.declared.Location.TheVariants.{Upper};
 ghost use Rattle.location.specs.Location.{goes_up};
-ghost use Rattle.checks.specs.Room.{Room};
-ghost use Rattle.wide.specs.Filling.{Holding, Offered};
-ghost use Rattle.wide.specs.Attempted.{Attempted};
+ghost use Rattle.descent.specs.Ready.{Room};
+ghost use Rattle.wide.specs.Filling.{Offered};
+ghost use Rattle.wide.specs.Attempted.{AttemptsInOrder};
 ghost use Rattle.far.specs.Beside.{Beside};
 ghost use Rattle.far.specs.Alone.{Alone, Answered};
 
@@ -23,7 +22,7 @@ use parts::copy;
 use place::Placed;
 use rounding::Mode;
 use settle::Pair;
-use wide::{Attempt, nothing};
+use wide::Attempt;
 
 // Fills the target with the first operand's limbs, or with one less. Returns the guard below them.
 fn fill(same: bool, first: &[u64], target: &mut [u64]) -> u64
@@ -35,7 +34,7 @@ fn fill(same: bool, first: &[u64], target: &mut [u64]) -> u64
         return 0;
     }
     walk::fall(target, 0);
-    18446744073709551615
+    u64::MAX
 }
 
 // Rounds the first operand and a little more, or a little less: its limbs, or one less, and a guard.
@@ -123,21 +122,20 @@ pub fn attempt(
     first: &[u64],
     second: &[u64],
     target: &mut [u64],
-) -> Attempt
+) -> Option<Attempt>
     requires { Room p (length target.old) × Offered pair first.now second.now × (length first.now ≡ length target.old) × (64 * length target.old ≤ pair.gap) × (p + 1 < pair.gap) }
-    ensures { (length target.new ≡ length target.old) × (result.open ≡ false → (z w : Operand) → Holding z w pair first.now second.now → negative ≡ z.negative → Attempted mode p z w target.new result.negative result.placed result.depth (cond swapped result.second result.first) (cond swapped result.first result.second)) }
+    ensures { (length target.new ≡ length target.old) × AttemptsInOrder mode p negative pair swapped first.now second.now target.new result }
 {
     let n = target.len() as u64;
     if !descent::is_inland(pair, n - 1) {
-        return nothing();
+        return None;
     }
     let placed = round(mode, negative, p, pair, first, target);
-    Attempt {
-        open: false,
-        negative: negative,
-        placed: placed,
+    Some(Attempt {
+        negative,
+        placed,
         depth: n,
         first: either(swapped, n, 0),
         second: either(swapped, 0, n),
-    }
+    })
 }

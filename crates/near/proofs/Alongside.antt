@@ -3,6 +3,7 @@ use mathlib.Core.Path.{◌≡◌, refl, sym, ap, ◌∙◌, subst}
 use mathlib.Core.Logic.{inl, inr}
 use mathlib.Core.Bool.{Bool, true, false, cond, true≢false}
 use mathlib.Core.List.{List}
+use Rattle.std.specs.Prelude.{Some}
 use Prim.Native.Nat.{ℕ, min, ◌+◌, ◌-◌, ◌*◌, ◌/◌, ◌%◌, ◌^◌, ◌≤◌, ◌<◌}
 use native.Mathlib.Omega.{arith}
 use borrow.Author.Tests.{lt-leb}
@@ -168,7 +169,7 @@ module _ (p : ℕ) (pair : Pair) (first second before : List ℕ) (room : Room p
 
   -- ---- the depth
 
-  module _ (offered : Offered pair first second) (after : List ℕ) (r : Filled) (fills : Fills p pair first second after r) (closed : r.open ≡ false) where
+  module _ (offered : Offered pair first second) (after : List ℕ) (r : Filled) (fills : Fills p pair first second after (Some r)) where
     abbrev x : Operand
     x = offered.larger
 
@@ -178,8 +179,8 @@ module _ (p : ℕ) (pair : Pair) (first second before : List ℕ) (room : Room p
     abbrev h : Holding x y pair first second
     h = offered.holding
 
-    rounds : Rounds Nearest p x y after r.carry r.guard r.more r.depth
-    rounds = fills closed Nearest x y h
+    rounds : Rounds nearest p x y after r.carry r.guard r.more r.depth
+    rounds = fills nearest x y h
 
     fixed_at : (k : ℕ) → 1 ≤ k → Decides (decide_at Nearest p x y k) (Fixed plus Nearest p x y k)
     fixed_at k K = decides_fixed Nearest p (digits_some p n room) x y h.course.ordered.first h.course.ordered.second k K
@@ -203,3 +204,8 @@ all_used k gap m n l close some deep e f = rw (e, f, lt-leb (64 * k) gap (omega 
   where
     go : (n k gap : ℕ) → gap < 64 → n ≤ k → n ≡ min n ((64 * k - gap + 63) / 64)
     go n k gap c d = omega arith
+
+-- in either order
+pub used_alike : (s : Bool) {n m k : ℕ} → n ≡ m → n ≡ k → (cond s n n ≡ m) × (cond s n n ≡ k)
+used_alike true e f = (e, f)
+used_alike false e f = (e, f)

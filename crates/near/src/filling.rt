@@ -1,5 +1,5 @@
 // One walk fills the target: the columns that fill it fix the answer, or those and the guard.
-ghost use Rattle.std.specs.Prelude.{◌≡◌, false, ◌-◌, ◌*◌, ◌/◌, ◌%◌, ◌^◌, ◌≤◌, ◌<◌, length};
+ghost use Rattle.std.specs.Prelude.{◌≡◌, false, ◌-◌, ◌*◌, ◌/◌, ◌%◌, ◌^◌, ◌≤◌, ◌<◌, length, IfSome};
 ghost use Rattle.limb.specs.Value.{value_of};
 ghost use Rattle.checks.specs.Room.{Room};
 ghost use Rattle.descent.specs.Course.{Inland};
@@ -8,7 +8,7 @@ ghost use Rattle.wide.specs.Guarding.{Spent};
 ghost use Rattle.near.specs.Abreast.{Abreast, Moved, Guarding};
 
 use settle::Pair;
-use wide::{Filled, none};
+use wide::Filled;
 
 // The limb below the target, and whether it borrows.
 #[derive(Clone, Copy)]
@@ -49,20 +49,20 @@ fn fill_moved(pair: Pair, borrow: bool, first: &[u64], second: &[u64], target: &
 }
 
 // The target has no digit to spare: the columns that fill it, and the guard.
-fn fill_guarded(p: u64, pair: Pair, first: &[u64], second: &[u64], target: &mut [u64]) -> Filled
+fn fill_guarded(p: u64, pair: Pair, first: &[u64], second: &[u64], target: &mut [u64]) -> Option<Filled>
     requires { Room p (length target.old) × Offered pair first.now second.now × Abreast pair first.now second.now (length target.old) × Spent p pair (length target.old) × Inland pair (length target.old) }
     ensures { (length target.new ≡ length target.old) × Fills p pair first.now second.now target.new result }
 {
     let guard = guard_of(pair.same, second[0], pair.gap);
     let carry = fill_moved(pair, guard.borrow, first, second, target);
     if carry {
-        return none();
+        return None;
     }
     wide::glance_guarded(p, pair, guard.limb, target)
 }
 
 // The columns that fill the target alone.
-fn fill_full(p: u64, pair: Pair, first: &[u64], second: &[u64], target: &mut [u64]) -> Filled
+fn fill_full(p: u64, pair: Pair, first: &[u64], second: &[u64], target: &mut [u64]) -> Option<Filled>
     requires { Room p (length target.old) × Offered pair first.now second.now × Abreast pair first.now second.now (length target.old) × Inland pair (length target.old) }
     ensures { (length target.new ≡ length target.old) × Fills p pair first.now second.now target.new result }
 {
@@ -71,13 +71,13 @@ fn fill_full(p: u64, pair: Pair, first: &[u64], second: &[u64], target: &mut [u6
 }
 
 // Fills the target where no refusal is near. All limbs of both operands are then used.
-pub fn fill(p: u64, pair: Pair, first: &[u64], second: &[u64], target: &mut [u64]) -> Filled
+pub fn fill(p: u64, pair: Pair, first: &[u64], second: &[u64], target: &mut [u64]) -> Option<Filled>
     requires { Room p (length target.old) × Offered pair first.now second.now × Abreast pair first.now second.now (length target.old) }
-    ensures { (length target.new ≡ length target.old) × Fills p pair first.now second.now target.new result × (result.open ≡ false → length target.old ≤ result.depth) }
+    ensures { (length target.new ≡ length target.old) × Fills p pair first.now second.now target.new result × IfSome result (λ f. length target.old ≤ f.depth) }
 {
     let n = target.len() as u64;
     if !descent::is_inland(pair, n) {
-        return none();
+        return None;
     }
     if wide::needs_guard(p, pair, n) {
         return fill_guarded(p, pair, first, second, target);

@@ -8,17 +8,16 @@
 #![tactic(auto)]
 
 ghost use Rattle.std.specs.Prelude.{◌≡◌, false, ◌<◌, length};
-ghost use Rattle.numbers.specs.Operand.{Operand};
-ghost use Rattle.checks.specs.Room.{Room};
-ghost use Rattle.wide.specs.Filling.{Holding, Offered};
-ghost use Rattle.wide.specs.Attempted.{Attempted};
+ghost use Rattle.descent.specs.Ready.{Room};
+ghost use Rattle.wide.specs.Filling.{Offered};
+ghost use Rattle.wide.specs.Attempted.{AttemptsInOrder};
 
 mod filling; // filling.rt: one walk fills the target
 
 use filling::fill;
 use rounding::Mode;
 use settle::Pair;
-use wide::{Attempt, nothing};
+use wide::Attempt;
 
 // Adds two such numbers, the second with its own sign, where the columns that fill the target, or one more, fix the answer.
 pub fn attempt(
@@ -26,17 +25,15 @@ pub fn attempt(
     negative: bool,
     p: u64,
     pair: Pair,
+    swapped: bool,
     first: &[u64],
     second: &[u64],
     target: &mut [u64],
-) -> Attempt
+) -> Option<Attempt>
     requires { Room p (length target.old) × Offered pair first.now second.now × (length first.now ≡ length target.old) × (length second.now ≡ length target.old) × (0 < pair.gap) × (pair.gap < 64) }
-    ensures { (length target.new ≡ length target.old) × (result.open ≡ false → (z w : Operand) → Holding z w pair first.now second.now → negative ≡ z.negative → Attempted mode p z w target.new result.negative result.placed result.depth result.first result.second) }
+    ensures { (length target.new ≡ length target.old) × AttemptsInOrder mode p negative pair swapped first.now second.now target.new result }
 {
-    let filled = fill(p, pair, first, second, target);
-    if filled.open {
-        return nothing();
-    }
+    let filled = fill(p, pair, first, second, target)?;
     let n = target.len() as u64;
     let placed = place::round_fit(
         negative,
@@ -48,12 +45,11 @@ pub fn attempt(
         p,
         mode,
     );
-    Attempt {
-        open: false,
-        negative: negative,
-        placed: placed,
+    Some(Attempt {
+        negative,
+        placed,
         depth: filled.depth,
         first: n,
         second: n,
-    }
+    })
 }

@@ -17,12 +17,11 @@ use wide::{Attempt, Filled};
 // Fills the target with the larger, and zeros; or with one less.
 fn fill(p: u64, pair: Pair, u: u64, target: &mut [u64]) -> Filled
     requires { Room p (length target.old) × (2 < length target.old) × (p + 1 < pair.gap) }
-    ensures { (length target.new ≡ length target.old) × (result.open ≡ false) × (result.depth ≡ 1) × ((v : ℕ) → Fills p pair (u ∷ []) (v ∷ []) target.new result) }
+    ensures { (length target.new ≡ length target.old) × (result.depth ≡ 1) × ((v : ℕ) → Fills p pair (u ∷ []) (v ∷ []) target.new (Some result)) }
 {
     write(target, u, 0);
     if pair.same {
         return Filled {
-            open: false,
             carry: false,
             guard: 0,
             more: true,
@@ -31,9 +30,8 @@ fn fill(p: u64, pair: Pair, u: u64, target: &mut [u64]) -> Filled
     }
     walk::fall(target, 0);
     Filled {
-        open: false,
         carry: false,
-        guard: 18446744073709551615,
+        guard: u64::MAX,
         more: true,
         depth: 1,
     }
@@ -104,13 +102,12 @@ pub fn add_apart(
     target: &mut [u64],
 ) -> Attempt
     requires { Room p (length target.old) × (2 < length target.old) × ((v : ℕ) × Offered pair (u ∷ []) (v ∷ [])) × (p + 1 < pair.gap) }
-    ensures { (length target.new ≡ length target.old) × (result.open ≡ false → (v : ℕ) → Tells mode p pair u v negative swapped target.new result) }
+    ensures { (length target.new ≡ length target.old) × ((v : ℕ) → Tells mode p pair u v negative swapped target.new result) }
 {
     let placed = round(mode, negative, p, pair, u, target);
     Attempt {
-        open: false,
-        negative: negative,
-        placed: placed,
+        negative,
+        placed,
         depth: 1,
         first: one(!swapped),
         second: one(swapped),

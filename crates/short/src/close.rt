@@ -52,7 +52,7 @@ fn combine(same: bool, u: u64, v: u64, gap: u64) -> Head
 // Adds two limbs in order, u the larger.
 pub fn add_close(negative: bool, p: u64, pair: Pair, u: u64, v: u64, target: &mut [u64]) -> Attempt
     requires { Room p (length target.old) × (2 < length target.old) × Offered pair (u ∷ []) (v ∷ []) × (pair.gap < 64) × (ltb most_exponent (pair.top + 2) ≡ false) × (ltb (pair.top + 1) (least_exponent + 64 * length target.old) ≡ false) }
-    ensures { (length target.new ≡ length target.old) × (result.open ≡ false → (o : Mode) (swapped : Bool) → Tells o p pair u v negative swapped target.new result) }
+    ensures { (length target.new ≡ length target.old) × ((o : Mode) (swapped : Bool) → Tells o p pair u v negative swapped target.new result) }
 {
     let h = combine(pair.same, u, v, pair.gap);
     let n = normalize(h.carry, h.high, h.low, pair.top);
@@ -63,9 +63,8 @@ pub fn add_close(negative: bool, p: u64, pair: Pair, u: u64, v: u64, target: &mu
         ternary: 0,
     };
     Attempt {
-        open: false,
-        negative: negative,
-        placed: placed,
+        negative,
+        placed,
         depth: depth(pair.gap, pair.second),
         first: 1,
         second: 1,

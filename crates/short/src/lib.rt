@@ -1,11 +1,10 @@
 // A sum of two regular numbers of one limb each, in a target of three limbs or more: near each other it stands in two limbs and is exact; far apart the larger stands, with a little more below it or a little less.
 #![tactic(auto)]
 
-ghost use Rattle.std.specs.Prelude.{◌≡◌, false, cond, [], ◌∷◌, ◌<◌, length};
-ghost use Rattle.numbers.specs.Operand.{Operand};
-ghost use Rattle.checks.specs.Room.{Room};
-ghost use Rattle.wide.specs.Filling.{Holding, Offered};
-ghost use Rattle.wide.specs.Attempted.{Attempted};
+ghost use Rattle.std.specs.Prelude.{◌≡◌, [], ◌∷◌, ◌<◌, length, IfSome};
+ghost use Rattle.descent.specs.Ready.{Room};
+ghost use Rattle.wide.specs.Filling.{Offered};
+ghost use Rattle.wide.specs.Attempted.{AttemptsInOrder};
 ghost use Rattle.short.specs.Short.{Tells};
 
 mod close; // close.rt: less than a limb apart
@@ -15,7 +14,7 @@ use apart::add_apart;
 use close::add_close;
 use rounding::Mode;
 use settle::Pair;
-use wide::{Attempt, nothing};
+use wide::Attempt;
 
 // Adds two limbs in order, u the larger.
 fn add_in_order(
@@ -27,20 +26,20 @@ fn add_in_order(
     u: u64,
     v: u64,
     target: &mut [u64],
-) -> Attempt
+) -> Option<Attempt>
     requires { Room p (length target.old) × (2 < length target.old) × Offered pair (u ∷ []) (v ∷ []) }
-    ensures { (length target.new ≡ length target.old) × (result.open ≡ false → Tells mode p pair u v negative swapped target.new result) }
+    ensures { (length target.new ≡ length target.old) × IfSome result (λ a. Tells mode p pair u v negative swapped target.new a) }
 {
     if pair.gap < 64 {
         if bounds::is_high(pair.top) | bounds::is_low(pair.top, target.len() as u64) {
-            return nothing();
+            return None;
         }
-        return add_close(negative, p, pair, u, v, target);
+        return Some(add_close(negative, p, pair, u, v, target));
     }
     if pair.gap <= p + 1 {
-        return nothing();
+        return None;
     }
-    add_apart(mode, negative, p, pair, swapped, u, target)
+    Some(add_apart(mode, negative, p, pair, swapped, u, target))
 }
 
 // Adds two regular numbers in order, of one limb each, unless they lie at the ends of the range, or are apart by a limb or more and no more than the answer is long.
@@ -53,9 +52,9 @@ pub fn attempt(
     first: &[u64],
     second: &[u64],
     target: &mut [u64],
-) -> Attempt
+) -> Option<Attempt>
     requires { Room p (length target.old) × Offered pair first.now second.now × (length first.now ≡ 1) × (length second.now ≡ 1) × (2 < length target.old) }
-    ensures { (length target.new ≡ length target.old) × (result.open ≡ false → (z w : Operand) → Holding z w pair first.now second.now → negative ≡ z.negative → Attempted mode p z w target.new result.negative result.placed result.depth (cond swapped result.second result.first) (cond swapped result.first result.second)) }
+    ensures { (length target.new ≡ length target.old) × AttemptsInOrder mode p negative pair swapped first.now second.now target.new result }
 {
     let u = first[0];
     let v = second[0];

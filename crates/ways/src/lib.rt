@@ -2,18 +2,18 @@
 #![tactic(auto)]
 
 ghost use Rattle.std.specs.Prelude.{◌≡◌, true, false, not, cond, ◌+◌, ◌*◌, ◌^◌, ◌≤◌, ◌<◌, length};
-ghost use Rattle.numbers.specs.Operand.{Operand, WellFormed};
+ghost use Rattle.numbers.specs.Operand.{WellFormed};
 ghost use Rattle.checks.specs.Number.{operand_of};
-ghost use Rattle.checks.specs.Room.{Room};
-ghost use Rattle.wide.specs.Filling.{Holding, Offered, FillsBy};
-ghost use Rattle.wide.specs.Attempted.{Attempted};
+ghost use Rattle.descent.specs.Ready.{Room};
+ghost use Rattle.wide.specs.Filling.{Offered, FillsBy};
+ghost use Rattle.wide.specs.Attempted.{Attempts, AttemptsInOrder};
 ghost use Rattle.deep.specs.Deep.{Deep};
 
 use checks::Number;
 use choice::{either, is_level, is_second_larger};
 use rounding::Mode;
 use settle::Pair;
-use wide::{Attempt, Filled, nothing};
+use wide::{Attempt, Filled};
 
 // Whether two numbers have one exponent, and each as many limbs as the target.
 fn is_aligned(x: Number, m: usize, y: Number, k: usize, n: usize) -> bool
@@ -51,21 +51,6 @@ fn is_lower(m: usize, k: usize, n: usize) -> bool
     (m == 2) & (k == 2) & (n == 1)
 }
 
-// The same with the counts exchanged, where so said.
-fn exchanged_if(swapped: bool, r: Attempt) -> Attempt
-    ensures { (result.open ≡ r.open) × (result.negative ≡ r.negative) × (result.placed ≡ r.placed) × (result.depth ≡ r.depth) × (result.first ≡ cond swapped r.second r.first) × (result.second ≡ cond swapped r.first r.second) }
-{
-    let placed = r.placed;
-    Attempt {
-        open: r.open,
-        negative: r.negative,
-        placed: placed,
-        depth: r.depth,
-        first: either(swapped, r.first, r.second),
-        second: either(swapped, r.second, r.first),
-    }
-}
-
 // Whether one limb holds the digits asked for with two to spare, and both operands begin in the first column and have more than a digit below it.
 fn is_deep(p: u64, pair: Pair) -> bool
     requires { pair.gap + pair.second < 2 ^ 64 }
@@ -83,14 +68,13 @@ fn fill(
     first: &[u64],
     second: &[u64],
     target: &mut [u64],
-) -> Filled
+) -> Option<Filled>
     requires { Room p (length target.old) × Offered pair first.now second.now }
     ensures { (length target.new ≡ length target.old) × FillsBy mode negative p pair first.now second.now target.new result }
 {
     if is_deep(p, pair) {
-        let filled = deep::fill(mode, negative, p, pair, first, second, target);
-        if !filled.open {
-            return filled;
+        if let Some(filled) = deep::fill(mode, negative, p, pair, first, second, target) {
+            return Some(filled);
         }
     }
     wide::fill(p, pair, first, second, target)
@@ -106,14 +90,11 @@ fn round_filled(
     first: &[u64],
     second: &[u64],
     target: &mut [u64],
-) -> Attempt
+) -> Option<Attempt>
     requires { Room p (length target.old) × Offered pair first.now second.now }
-    ensures { (length target.new ≡ length target.old) × (result.open ≡ false → (z w : Operand) → Holding z w pair first.now second.now → negative ≡ z.negative → Attempted mode p z w target.new result.negative result.placed result.depth (cond swapped result.second result.first) (cond swapped result.first result.second)) }
+    ensures { (length target.new ≡ length target.old) × AttemptsInOrder mode p negative pair swapped first.now second.now target.new result }
 {
-    let filled = fill(mode, negative, p, pair, first, second, target);
-    if filled.open {
-        return nothing();
-    }
+    let filled = fill(mode, negative, p, pair, first, second, target)?;
     let k = filled.depth;
     let placed = place::round_fit(
         negative,
@@ -127,14 +108,13 @@ fn round_filled(
     );
     let upper = reports::used(k, 0, first.len());
     let lower = reports::used(k, pair.gap, second.len());
-    Attempt {
-        open: false,
-        negative: negative,
-        placed: placed,
+    Some(Attempt {
+        negative,
+        placed,
         depth: k,
         first: either(swapped, upper, lower),
         second: either(swapped, lower, upper),
-    }
+    })
 }
 
 // Reads two operands in order, in the shortest of the ways that fit them.
@@ -147,15 +127,12 @@ fn read_in_order(
     first: &[u64],
     second: &[u64],
     target: &mut [u64],
-) -> Attempt
+) -> Option<Attempt>
     requires { Room p (length target.old) × Offered pair first.now second.now }
-    ensures { (length target.new ≡ length target.old) × (result.open ≡ false → (z w : Operand) → Holding z w pair first.now second.now → negative ≡ z.negative → Attempted mode p z w target.new result.negative result.placed result.depth (cond swapped result.second result.first) (cond swapped result.first result.second)) }
+    ensures { (length target.new ≡ length target.old) × AttemptsInOrder mode p negative pair swapped first.now second.now target.new result }
 {
     if is_near(pair, first.len(), second.len(), target.len()) {
-        return exchanged_if(
-            swapped,
-            near::attempt(mode, negative, p, pair, first, second, target),
-        );
+        return near::attempt(mode, negative, p, pair, swapped, first, second, target);
     }
     if is_far(p, pair, first.len(), target.len()) {
         return far::attempt(mode, negative, p, pair, swapped, first, second, target);
@@ -176,9 +153,9 @@ fn read_as_said<'a>(
     xl: &'a [u64],
     yl: &'a [u64],
     target: &mut [u64],
-) -> Attempt
+) -> Option<Attempt>
     requires { Room p (length target.old) × Offered pair (cond swapped yl.now xl.now) (cond swapped xl.now yl.now) }
-    ensures { (length target.new ≡ length target.old) × (result.open ≡ false → (z w : Operand) → Holding z w pair (cond swapped yl.now xl.now) (cond swapped xl.now yl.now) → negative ≡ z.negative → Attempted mode p z w target.new result.negative result.placed result.depth (cond swapped result.second result.first) (cond swapped result.first result.second)) }
+    ensures { (length target.new ≡ length target.old) × AttemptsInOrder mode p negative pair swapped (cond swapped yl.now xl.now) (cond swapped xl.now yl.now) target.new result }
 {
     let first = either(swapped, xl, yl);
     let second = either(swapped, yl, xl);
@@ -194,9 +171,9 @@ fn add_regular<'a>(
     yl: &'a [u64],
     p: u64,
     target: &mut [u64],
-) -> Attempt
+) -> Option<Attempt>
     requires { WellFormed (operand_of x xl.now) × ((operand_of x xl.now).is_zero ≡ false) × WellFormed (operand_of y yl.now) × ((operand_of y yl.now).is_zero ≡ false) × Room p (length target.old) }
-    ensures { (length target.new ≡ length target.old) × (result.open ≡ false → Attempted mode p (operand_of x xl.now) (operand_of y yl.now) target.new result.negative result.placed result.depth result.first result.second) }
+    ensures { (length target.new ≡ length target.old) × Attempts mode p (operand_of x xl.now) (operand_of y yl.now) target.new result }
 {
     let u = xl[xl.len() - 1];
     let v = yl[yl.len() - 1];
@@ -205,9 +182,11 @@ fn add_regular<'a>(
     let same = x.negative == y.negative;
     if is_level(same, a, b, u, v) {
         if is_lower(xl.len(), yl.len(), target.len()) {
-            return aligned::subtract_lower(mode, x.negative, p, a, xl[0], yl[0], target);
+            return Some(aligned::subtract_lower(
+                mode, x.negative, p, a, xl[0], yl[0], target,
+            ));
         }
-        return nothing();
+        return None;
     }
     let swapped = is_second_larger(a, b, u, v);
     let top = either(swapped, a, b);
@@ -231,15 +210,15 @@ pub fn attempt<'a>(
     yl: &'a [u64],
     p: u64,
     target: &mut [u64],
-) -> Attempt
+) -> Option<Attempt>
     requires { WellFormed (operand_of x xl.now) × WellFormed (operand_of y yl.now) × Room p (length target.old) }
-    ensures { (length target.new ≡ length target.old) × (result.open ≡ false → Attempted mode p (operand_of x xl.now) (operand_of y yl.now) target.new result.negative result.placed result.depth result.first result.second) }
+    ensures { (length target.new ≡ length target.old) × Attempts mode p (operand_of x xl.now) (operand_of y yl.now) target.new result }
 {
     if checks::is_zero(x) {
-        return nothing();
+        return None;
     }
     if checks::is_zero(y) {
-        return nothing();
+        return None;
     }
     if is_aligned(x, xl.len(), y, yl.len(), target.len()) {
         return aligned::attempt(mode, x, xl, y, yl, p, target);

@@ -3,6 +3,7 @@ use mathlib.Core.Path.{◌≡◌, refl, sym, ap, ◌∙◌, subst}
 use mathlib.Core.Logic.{inl, inr}
 use mathlib.Core.Bool.{Bool, true, false, not, cond, ◌&&◌, ◌||◌, beq, true≢false}
 use mathlib.Core.List.{List}
+use Rattle.std.specs.Prelude.{Option, None, Some}
 use Prim.Native.Nat.{ℕ, ◌+◌, ◌-◌, ◌*◌, ◌^◌, ◌≤◌, ◌<◌}
 use native.Mathlib.Omega.{arith}
 use borrow.Author.Tests.{lt-ltb, le-ltb, le-leb, eq-eqb, eqb-true, ltb-true}
@@ -45,7 +46,8 @@ use Rattle.wide.specs.declared.filling.Filled.{Filled}
 use Rattle.wide.specs.Filling.{Holding, Offered, Rounds, Fills, FillsBy}
 use Rattle.reports.specs.Counts.{used_of}
 use Rattle.reports.proofs.Counts.{used_is}
-use Rattle.wide.specs.Attempted.{Attempted}
+use Rattle.wide.specs.declared.told.Attempt.{Attempt}
+use Rattle.wide.specs.Attempted.{Attempted, Attempts, AttemptsInOrder}
 
 -- ---- which of two operands comes first
 
@@ -192,10 +194,25 @@ fixed_told p P pair first second z w h o {exit} {negative} {placed} {k} {i} {j} 
     apart n = omega arith
 
 -- what fills it under any mode does so under each
-pub fills_by : (o : Mode) (negative : Bool) (p : ℕ) (pair : Pair) (first second exit : List ℕ) (r : Filled) → Fills p pair first second exit r → Offered pair first second → FillsBy o negative p pair first second exit r
-fills_by o negative p pair first second exit r fills held closed =
-    let rounds = fills closed o held.larger held.other held.holding in
-    (rounds.near, rounds.led, λ z w h sign. fills closed o z w h)
+pub fills_by : (o : Mode) (negative : Bool) (p : ℕ) (pair : Pair) (first second exit : List ℕ) (r : Option Filled) → Fills p pair first second exit r → Offered pair first second → FillsBy o negative p pair first second exit r
+fills_by o negative p pair first second exit None fills held = tt
+fills_by o negative p pair first second exit (Some f) fills held =
+    let rounds = fills o held.larger held.other held.holding in
+    (rounds.near, rounds.led, λ z w h sign. fills o z w h)
+
+-- what is told of operands held by some limbs is told of those held by others, where they are the same
+pub attempts_held : (o : Mode) (p : ℕ) (negative : Bool) (pair : Pair) (swapped : Bool) (first second a b exit : List ℕ) → ((x y : Operand) → Holding x y pair a b → Holding x y pair first second)
+    → (r : Option Attempt) → AttemptsInOrder o p negative pair swapped first second exit r → AttemptsInOrder o p negative pair swapped a b exit r
+attempts_held o p negative pair swapped first second a b exit same None told = tt
+attempts_held o p negative pair swapped first second a b exit same (Some r) told = λ x y h. told x y (same x y h)
+
+-- what is told of two operands in order is told of them in the order of the caller
+pub attempts_told : (o : Mode) (p m : ℕ) → Room p m → (x y : Operand) → x.is_zero ≡ false → y.is_zero ≡ false → (negative : Bool) (pair : Pair) (swapped : Bool) (first second exit : List ℕ)
+    → Holding (cond swapped y x) (cond swapped x y) pair first second → negative ≡ (cond swapped y x).negative
+    → (r : Option Attempt) → AttemptsInOrder o p negative pair swapped first second exit r → Attempts o p x y exit r
+attempts_told o p m room x y g h negative pair swapped first second exit held sign None told = tt
+attempts_told o p m room x y g h negative pair swapped first second exit held sign (Some a) told =
+    attempted_told o p m room x y g h swapped exit a.negative a.placed a.depth a.first a.second (told _ _ held sign)
 
 pub few : {depth : ℕ} → depth ≤ deepest → depth ≤ 2 ^ 20
 few near = omega (arith, near, not_deep)

@@ -1,5 +1,5 @@
 -- What is told of a sum that is read at once: its depth, its answer, and the limbs used. Definitions only.
-use Rattle.std.specs.Prelude.{ℕ, ◌-◌, ◌≤◌, ◌≡◌, Bool, List}
+use Rattle.std.specs.Prelude.{ℕ, ◌-◌, ◌≤◌, ◌≡◌, Bool, List, Option, IfSome, cond}
 use Rattle.numbers.specs.Operand.{Operand}
 use Rattle.rounding.specs.declared.Mode.{Mode}
 use Rattle.rounding.specs.Sum.{add}
@@ -9,6 +9,9 @@ use Rattle.depth.specs.Depth.{plus, Depth}
 use Rattle.place.specs.declared.Placed.{Placed}
 use Rattle.descent.specs.Finishing.{Left}
 use Rattle.reports.specs.Signed.{Signed}
+use Rattle.settle.specs.declared.rows.Pair.{Pair}
+use Rattle.wide.specs.declared.told.Attempt.{Attempt}
+use Rattle.wide.specs.Filling.{Holding}
 
 -- the answer's sign, what is told of it, and its limbs in the target; the depth, and the limbs used of each operand
 pub record Attempted (o : Mode) (p : ℕ) (x y : Operand) (exit : List ℕ) (negative : Bool) (placed : Placed) (depth first second : ℕ) : Type 0 where
@@ -18,3 +21,13 @@ pub record Attempted (o : Mode) (p : ℕ) (x y : Operand) (exit : List ℕ) (neg
   pub signed : Signed negative (add o p x y)
   pub first_used : first ≡ limbs_used (top_exponent x y) depth x
   pub second_used : second ≡ limbs_used (top_exponent x y) depth y
+
+-- where it is not left open
+abbrev pub Attempts : Mode → ℕ → Operand → Operand → List ℕ → Option Attempt → Type 0
+Attempts o p x y exit r = IfSome r (λ a. Attempted o p x y exit a.negative a.placed a.depth a.first a.second)
+
+-- the same of all operands that are so held, where the first has that sign; the counts are in the caller's order
+abbrev pub AttemptsInOrder : Mode → ℕ → Bool → Pair → Bool → List ℕ → List ℕ → List ℕ → Option Attempt → Type 0
+AttemptsInOrder o p negative pair swapped first second exit r =
+    IfSome r (λ a. (x y : Operand) → Holding x y pair first second → negative ≡ x.negative
+    → Attempted o p x y exit a.negative a.placed a.depth (cond swapped a.second a.first) (cond swapped a.first a.second))

@@ -1,5 +1,5 @@
 -- A sum read at once into a target: what is held of the operands, and what then stands there. Definitions only.
-use Rattle.std.specs.Prelude.{ℕ, ◌+◌, ◌-◌, ◌*◌, ◌≤◌, ◌<◌, ◌≡◌, Bool, true, false, List, length, get_or}
+use Rattle.std.specs.Prelude.{ℕ, ◌+◌, ◌-◌, ◌*◌, ◌≤◌, ◌<◌, ◌≡◌, Bool, true, false, List, length, get_or, Option, IfSome}
 use Rattle.numbers.specs.Operand.{Operand}
 use Rattle.rounding.specs.Mode.{way}
 use Rattle.rounding.specs.declared.Mode.{Mode}
@@ -39,17 +39,16 @@ pub record Rounds (o : Mode) (p : ℕ) (x y : Operand) (exit : List ℕ) (carry 
   pub led : carry ≡ false → 0 < get_or exit (length exit - 1) 0
 
 -- where it is not left open
-abbrev pub Fills : ℕ → Pair → List ℕ → List ℕ → List ℕ → Filled → Type 0
+abbrev pub Fills : ℕ → Pair → List ℕ → List ℕ → List ℕ → Option Filled → Type 0
 Fills p pair first second exit r =
-    r.open ≡ false → (o : Mode) (x y : Operand) → Holding x y pair first second → Rounds o p x y exit r.carry r.guard r.more r.depth
+    IfSome r (λ f. (o : Mode) (x y : Operand) → Holding x y pair first second → Rounds o p x y exit f.carry f.guard f.more f.depth)
 
 -- the same under one mode, of a sum of that sign; how many columns fix it, and that it has a first digit, hold under any
-abbrev pub FillsBy : Mode → Bool → ℕ → Pair → List ℕ → List ℕ → List ℕ → Filled → Type 0
+abbrev pub FillsBy : Mode → Bool → ℕ → Pair → List ℕ → List ℕ → List ℕ → Option Filled → Type 0
 FillsBy o negative p pair first second exit r =
-    r.open ≡ false
-    → (r.depth ≤ deepest)
-    × (r.carry ≡ false → 0 < get_or exit (length exit - 1) 0)
-    × ((x y : Operand) → Holding x y pair first second → negative ≡ x.negative → Rounds o p x y exit r.carry r.guard r.more r.depth)
+    IfSome r (λ f. (f.depth ≤ deepest)
+    × (f.carry ≡ false → 0 < get_or exit (length exit - 1) 0)
+    × ((x y : Operand) → Holding x y pair first second → negative ≡ x.negative → Rounds o p x y exit f.carry f.guard f.more f.depth))
 
 -- the columns that fill the target are read, and their carry
 pub record Promptly (pair : Pair) (first second before after : List ℕ) (w : Window) (carry : Bool) : Type 0 where

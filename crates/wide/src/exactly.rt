@@ -9,7 +9,7 @@ ghost use Rattle.descent.specs.Course.{Full, Inside};
 ghost use Rattle.wide.specs.Filling.{Offered, Promptly, Fills};
 
 use crate::below::{is_hollow, is_read, more_below};
-use crate::filling::{Filled, none};
+use crate::filling::Filled;
 use settle::Pair;
 
 // Whether a borrow from below leaves something in the top limb.
@@ -50,45 +50,43 @@ fn is_inside(carry: bool, target: &[u64], p: u64) -> bool
 }
 
 // What a full target fixes.
-pub fn glance_full(p: u64, pair: Pair, carry: bool, target: &[u64]) -> Filled
+pub fn glance_full(p: u64, pair: Pair, carry: bool, target: &[u64]) -> Option<Filled>
     requires { Room p (length target.now) × Modest pair (length target.now) × (0 < pair.second) }
     ensures { (first second before : List ℕ) (w : Window) → Promptly pair first second before target.now w carry → Fills p pair first second target.now result }
 {
     if !has_lead(carry, target) {
-        return none();
+        return None;
     }
     let k = target.len() as u64;
     if is_read(pair, k) {
-        return Filled {
-            open: false,
-            carry: carry,
+        return Some(Filled {
+            carry,
             guard: 0,
             more: false,
             depth: k,
-        };
+        });
     }
     if is_hollow(pair, k) {
-        return none();
+        return None;
     }
     if !is_inside(carry, target, p) {
-        return none();
+        return None;
     }
-    Filled {
-        open: false,
-        carry: carry,
+    Some(Filled {
+        carry,
         guard: 0,
         more: more_below(pair, k),
         depth: k,
-    }
+    })
 }
 
 // Fills the target with as many columns as it has limbs.
-pub fn fill_exactly(p: u64, pair: Pair, first: &[u64], second: &[u64], target: &mut [u64]) -> Filled
+pub fn fill_exactly(p: u64, pair: Pair, first: &[u64], second: &[u64], target: &mut [u64]) -> Option<Filled>
     requires { Room p (length target.old) × Offered pair first.now second.now }
     ensures { (length target.new ≡ length target.old) × Fills p pair first.now second.now target.new result }
 {
     if !descent::is_prompt(pair, first.len(), second.len(), 0, target.len()) {
-        return none();
+        return None;
     }
     let w = descent::fill(pair, first, second, 0, target);
     glance_full(p, pair, w.carry, target)

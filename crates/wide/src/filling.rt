@@ -11,27 +11,13 @@ use crate::guarded::fill_guarded;
 use crate::hollow::fill_hollow;
 use settle::Pair;
 
-// What stands in the target is a run: carry, target, guard, and more below it; so many columns fix it. Or it is left open.
+// What stands in the target is a run: carry, target, guard, and more below it; so many columns fix it.
 #[derive(Clone, Copy)]
 pub struct Filled {
-    pub open: bool,
     pub carry: bool,
     pub guard: u64,
     pub more: bool,
     pub depth: u64,
-}
-
-// Left open.
-pub fn none() -> Filled
-    ensures { result.open ≡ true }
-{
-    Filled {
-        open: true,
-        carry: false,
-        guard: 0,
-        more: false,
-        depth: 0,
-    }
 }
 
 // Whether a column below the target is needed: it has no digit to spare, and n columns leave some unread.
@@ -45,8 +31,8 @@ pub fn needs_guard(p: u64, pair: Pair, n: u64) -> bool
     !is_read(pair, n) & (pair.gap < p)
 }
 
-// Fills the target in the way that may fix the answer.
-pub fn fill(p: u64, pair: Pair, first: &[u64], second: &[u64], target: &mut [u64]) -> Filled
+// Fills the target in the way that may fix the answer, or leaves it open.
+pub fn fill(p: u64, pair: Pair, first: &[u64], second: &[u64], target: &mut [u64]) -> Option<Filled>
     requires { Room p (length target.old) × Offered pair first.now second.now }
     ensures { (length target.new ≡ length target.old) × Fills p pair first.now second.now target.new result }
 {

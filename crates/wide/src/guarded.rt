@@ -8,7 +8,7 @@ ghost use Rattle.wide.specs.Filling.{Offered, Fills};
 ghost use Rattle.wide.specs.Guarding.{Spent, Guards};
 
 use crate::below::{is_read, more_below};
-use crate::filling::{Filled, none};
+use crate::filling::Filled;
 use settle::Pair;
 
 // Whether the last digits of the guard, as many as the top limb has, the first of them left out, are neither all zeros nor all ones.
@@ -21,34 +21,32 @@ fn is_inside(top: u64, guard: u64) -> bool
 }
 
 // What a full target and a guard fix.
-pub fn glance_guarded(p: u64, pair: Pair, guard: u64, target: &[u64]) -> Filled
+pub fn glance_guarded(p: u64, pair: Pair, guard: u64, target: &[u64]) -> Option<Filled>
     requires { Room p (length target.now) × Modest pair (length target.now + 1) × (0 < pair.second) }
     ensures { (first second : List ℕ) → Guards p pair first second target.now guard → Fills p pair first second target.now result }
 {
     let top = target[target.len() - 1];
     if top <= 1 {
-        return none();
+        return None;
     }
     let k = target.len() as u64 + 1;
     if is_read(pair, k) {
-        return Filled {
-            open: false,
+        return Some(Filled {
             carry: false,
-            guard: guard,
+            guard,
             more: false,
             depth: k,
-        };
+        });
     }
     if !is_inside(top, guard) {
-        return none();
+        return None;
     }
-    Filled {
-        open: false,
+    Some(Filled {
         carry: false,
-        guard: guard,
+        guard,
         more: more_below(pair, k),
         depth: k,
-    }
+    })
 }
 
 // Whether column n begins in the lowest limb of the second operand or above, and no refusal is near after n columns.
@@ -63,16 +61,16 @@ fn reaches_on(pair: Pair, second: usize, n: u64) -> bool
 }
 
 // Fills the target with as many columns as it has limbs, and reads one more.
-pub fn fill_guarded(p: u64, pair: Pair, first: &[u64], second: &[u64], target: &mut [u64]) -> Filled
+pub fn fill_guarded(p: u64, pair: Pair, first: &[u64], second: &[u64], target: &mut [u64]) -> Option<Filled>
     requires { Room p (length target.old) × Offered pair first.now second.now × Spent p pair (length target.old) }
     ensures { (length target.new ≡ length target.old) × Fills p pair first.now second.now target.new result }
 {
     let n = target.len() as u64;
     if !descent::is_prompt(pair, first.len(), second.len(), 0, target.len()) {
-        return none();
+        return None;
     }
     if !reaches_on(pair, second.len(), n) {
-        return none();
+        return None;
     }
     let run = leap::guarded_columns(
         pair.same,
@@ -85,7 +83,7 @@ pub fn fill_guarded(p: u64, pair: Pair, first: &[u64], second: &[u64], target: &
         n,
     );
     if run.carry {
-        return none();
+        return None;
     }
     glance_guarded(p, pair, run.guard, target)
 }

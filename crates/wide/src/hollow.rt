@@ -11,7 +11,7 @@ ghost use Rattle.checks.specs.Room.{Room};
 ghost use Rattle.wide.specs.Filling.{Offered, Fills};
 ghost use Rattle.wide.specs.Covering.{Covers};
 
-use crate::filling::{Filled, none};
+use crate::filling::Filled;
 use settle::Pair;
 
 // Fills the target with the columns of an operand of m digits, from the top.
@@ -32,33 +32,31 @@ fn fill_less(target: &mut [u64], first: &[u64], m: u64)
 }
 
 // Fills the target with the first operand, and a little more below it, or a little less.
-pub fn fill_hollow(p: u64, pair: Pair, first: &[u64], second: &[u64], target: &mut [u64]) -> Filled
+pub fn fill_hollow(p: u64, pair: Pair, first: &[u64], second: &[u64], target: &mut [u64]) -> Option<Filled>
     requires { Room p (length target.old) × Offered pair first.now second.now × ((leb (64 * length target.old) pair.gap && leb pair.first (64 * length target.old)) ≡ true) }
     ensures { (length target.new ≡ length target.old) × Fills p pair first.now second.now target.new result }
 {
     if pair.gap <= p + 1 {
-        return none();
+        return None;
     }
     if !descent::is_prompt(pair, first.len(), second.len(), 0, target.len()) {
-        return none();
+        return None;
     }
     let n = target.len() as u64;
     if pair.same {
         fill_first(target, first, pair.first);
-        return Filled {
-            open: false,
+        return Some(Filled {
             carry: false,
             guard: 0,
             more: true,
             depth: n,
-        };
+        });
     }
     fill_less(target, first, pair.first);
-    Filled {
-        open: false,
+    Some(Filled {
         carry: false,
-        guard: 18446744073709551615,
+        guard: u64::MAX,
         more: true,
         depth: n,
-    }
+    })
 }

@@ -9,6 +9,6 @@ mod hollow; // hollow.rt: the second operand lies below all that is read of the 
 mod told; // told.rt: what is told of the sum
 
 pub use exactly::glance_full;
-pub use filling::{Filled, fill, needs_guard, none};
+pub use filling::{Filled, fill, needs_guard};
 pub use guarded::glance_guarded;
-pub use told::{Attempt, nothing};
+pub use told::Attempt;

@@ -17,8 +17,6 @@ is_high-requires c =
     let top = exponent_told c.args.x c.args.xl.now _ (rw (to_z-of_z (record { sfits = c.struct_told-1.given.1.1.1.0.1 })) at c.counted_exponent-top.ensures) in
     top_modest _ _ _ _ (aligned_told c.args.x c.args.xl.now c.args.y c.args.yl.now _ c.requires.0 c.requires.1 c.requires.2 c.requires.3 c.requires.4 c.requires.5 c.requires.6) top
 
-pub returns-then-is_high : goal.returns-then-is_high
-returns-then-is_high c = (refl, λ e. absurd (true≢false (sym c.nothing.ensures ∙ e)))
 
 pub round_whole-requires : goal.round_whole-requires
 round_whole-requires c =
@@ -30,4 +28,4 @@ pub returns : goal.returns
 returns c =
     let top = exponent_told c.args.x c.args.xl.now _ (rw (to_z-of_z (record { sfits = c.struct_told-1.given.1.1.1.0.1 })) at c.counted_exponent-top.ensures) in
     let a = aligned_told c.args.x c.args.xl.now c.args.y c.args.yl.now _ c.requires.0 c.requires.1 c.requires.2 c.requires.3 c.requires.4 c.requires.5 c.requires.6 in
-    (c.round_whole.auto.target ∙ c.sum-carry.auto.target, λ e. c.round_whole.ensures.2 _ _ (sum_stands c.args.p c.args.x c.args.xl.now c.args.y c.args.yl.now c.args.target.now _ c.requires.7 a top (not_true _ c.if-x-y.false) (sym c.is_high.ensures ∙ c.if-is_high.false) c.sum-carry.ensures (λ i. (c.slice_known-2-1.given i).fits)) (sign_is c.args.x c.args.xl.now))
+    (c.round_whole.auto.target ∙ c.sum-carry.auto.target, c.round_whole.ensures.2 _ _ (sum_stands c.args.p c.args.x c.args.xl.now c.args.y c.args.yl.now c.args.target.now _ c.requires.7 a top (not_true _ c.if-x-y.false) (sym c.is_high.ensures ∙ c.if-is_high.false) c.sum-carry.ensures (λ i. (c.slice_known-2-1.given i).fits)) (sign_is c.args.x c.args.xl.now))

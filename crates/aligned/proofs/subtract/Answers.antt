@@ -22,8 +22,6 @@ is_low-requires c =
     let m = limbs_modest c.args.p _ c.requires.0 in
     (top_modest _ _ _ _ c.requires.1 c.requires.3, omega arith)
 
-pub returns-then-is_low : goal.returns-then-is_low
-returns-then-is_low c = (refl, λ e. absurd (true≢false (sym c.nothing.ensures ∙ e)))
 
 pub alike-z-requires : goal.alike-z-requires
 alike-z-requires c = as_many c.args.p c.args.x c.args.xl.now c.args.y c.args.yl.now c.args.target.now c.args.top c.requires.0 c.requires.1
@@ -32,7 +30,7 @@ pub returns-then-z-n : goal.returns-then-z-n
 returns-then-z-n c =
     let r = c.cancelled in
     let k = cancels_told c.args.p c.args.x c.args.xl.now c.args.y c.args.yl.now c.args.target.now c.args.top c.requires.0 c.requires.1 _ c.alike-z.ensures c.if-z-n.true c.requires.2 in
-    (r.ensures.0, λ e. r.ensures.1 c.args.p _ _ c.requires.0 k (sign_is c.args.x c.args.xl.now) (sign_is c.args.y c.args.yl.now))
+    (r.ensures.0, r.ensures.1 c.args.p _ _ c.requires.0 k (sign_is c.args.x c.args.xl.now) (sign_is c.args.y c.args.yl.now))
 
 pub is_second_larger-swapped-requires : goal.is_second_larger-swapped-requires
 is_second_larger-swapped-requires c = (within_runs c.args.p c.args.x c.args.xl.now c.args.y c.args.yl.now c.args.target.now c.args.top c.requires.0 c.requires.1 _ c.alike-z.ensures c.if-z-n.false, as_many c.args.p c.args.x c.args.xl.now c.args.y c.args.yl.now c.args.target.now c.args.top c.requires.0 c.requires.1)
@@ -46,8 +44,6 @@ overflow_sub-n c = room_some _ _ c.requires.0
 pub bounds-target-n : goal.bounds-target-n
 bounds-target-n c = omega (arith, room_some _ _ c.requires.0, c.subtract_in_order.auto.target)
 
-pub returns-then-target-n-eq0 : goal.returns-then-target-n-eq0
-returns-then-target-n-eq0 c = (c.subtract_in_order.auto.target, λ e. absurd (true≢false (sym c.nothing-then-target-n-eq0.ensures ∙ e)))
 
 pub settle_whole-requires : goal.settle_whole-requires
 settle_whole-requires c =
@@ -76,7 +72,7 @@ returns-then-x-p c =
     let signed : not (beq c.args.x.negative swapped) ≡ (cond swapped second first).negative = sign_kept c.args.p c.args.x c.args.xl.now c.args.y c.args.yl.now c.args.target.now c.args.top c.requires.0 c.requires.1 c.requires.2 swapped in
     let told = difference_told c.args.p c.args.x c.args.xl.now c.args.y c.args.yl.now c.args.target.now c.args.top c.requires.0 c.requires.1 swapped c.args.mode in
     let r = c.settle_whole in
-    (c.settle_whole.auto.target ∙ c.subtract_in_order.auto.target, λ e. told _ _ _ r.ensures.1 (r.ensures.2 c.args.mode _ _ stands signed))
+    (c.settle_whole.auto.target ∙ c.subtract_in_order.auto.target, told _ _ _ r.ensures.1 (r.ensures.2 c.args.mode _ _ stands signed))
 
 pub round_whole-requires : goal.round_whole-requires
 round_whole-requires c =
@@ -101,4 +97,4 @@ returns c =
     let signed : not (beq c.args.x.negative swapped) ≡ (cond swapped second first).negative = sign_kept c.args.p c.args.x c.args.xl.now c.args.y c.args.yl.now c.args.target.now c.args.top c.requires.0 c.requires.1 c.requires.2 swapped in
     let told = difference_told c.args.p c.args.x c.args.xl.now c.args.y c.args.yl.now c.args.target.now c.args.top c.requires.0 c.requires.1 swapped c.args.mode in
     let r = c.round_whole in
-    (c.round_whole.auto.target ∙ c.subtract_in_order.auto.target, λ e. told _ _ _ r.ensures.1 (r.ensures.2 _ _ stands signed))
+    (c.round_whole.auto.target ∙ c.subtract_in_order.auto.target, told _ _ _ r.ensures.1 (r.ensures.2 _ _ stands signed))

@@ -13,4 +13,4 @@ pub returns-then-are_few : goal.returns-then-are_few
 returns-then-are_few c =
     let few = few_tested (length c.args.target.now) c.args.x.precision c.args.y.precision c.args.p c.are_few.ensures c.if-are_few.true in
     let r = c.subtract in
-    (r.ensures.0, λ e. r.ensures.1 e c.args.p c.requires.0 few.1 few.2)
+    (r.ensures.0, r.ensures.1 c.args.p c.requires.0 few.1 few.2)

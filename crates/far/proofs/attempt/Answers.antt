@@ -16,8 +16,6 @@ is_inland-requires c =
     let w = offered_sighted c.args.p _ c.args.first.now c.args.second.now c.requires.1 c.args.target.now c.requires.0 in
     (w.top, omega (arith, w.target))
 
-pub returns-then-not-is_inland : goal.returns-then-not-is_inland
-returns-then-not-is_inland c = (refl, λ e. absurd (true≢false (sym c.nothing.ensures ∙ e)))
 
 pub round-placed-requires : goal.round-placed-requires
 round-placed-requires c =
@@ -45,5 +43,5 @@ returns c =
     } in
     let a = c.round-placed.ensures in (
       c.round-placed.auto.target,
-      λ o z w h sign. far_told c.args.p _ c.args.first.now c.args.target.now alone a.run a.guard a.limbs a.beside c.args.mode _ z w h sign c.args.swapped a.placed a.left c.either.ensures c.either-2.ensures,
+      λ z w h sign. far_told c.args.p _ c.args.first.now c.args.target.now alone a.run a.guard a.limbs a.beside c.args.mode _ z w h sign c.args.swapped a.placed a.left c.either.ensures c.either-2.ensures,
     )

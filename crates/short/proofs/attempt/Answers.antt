@@ -1,4 +1,5 @@
 -- `short::attempt` is right since a run of one limb is that limb. Assumes nothing.
+use Rattle.wide.proofs.InOrder.{attempts_held}
 use Rattle.short.proofs.Held.{held_limbs, offered_limbs}
 use Rattle.short.proofs.attempt.Goals as goal
 
@@ -8,4 +9,4 @@ add_in_order-requires c =
 
 pub returns : goal.returns
 returns c =
-    (c.add_in_order.auto.target, λ e z w h sign. c.add_in_order.ensures.1 e z w (held_limbs c.args.first.now c.args.second.now c.requires.2 c.requires.3 h) sign)
+    (c.add_in_order.auto.target, attempts_held _ _ _ _ _ _ _ c.args.first.now c.args.second.now _ (λ x y h. held_limbs c.args.first.now c.args.second.now c.requires.2 c.requires.3 h) _ c.add_in_order.ensures.1)

@@ -5,7 +5,7 @@ use native.Mathlib.Omega.{arith}
 use mir.Facts.{to_z-of_z}
 use Rattle.checks.specs.Number.{operand_of}
 use Rattle.descent.proofs.Handed.{handed_some}
-use Rattle.wide.proofs.InOrder.{gap_some, offered, holding, sign_told, attempted_told}
+use Rattle.wide.proofs.InOrder.{gap_some, offered, holding, sign_told, attempts_told}
 use Rattle.aligned.proofs.AsFound.{sign_is}
 use Rattle.ways.proofs.Chosen.{lower_held, lower_offered}
 use Rattle.ways.proofs.add_regular.Goals as goal
@@ -45,10 +45,8 @@ returns-then-is_lower c =
     let even = c.is_level in
     let limbs = c.is_lower.ensures c.if-is_lower.true in
     let r = c.subtract_lower in
-    (r.ensures.1, λ e. r.ensures.2 _ _ (lower_held g.x g.xl.now g.y g.yl.now c.requires.0 c.requires.1 c.requires.2 c.requires.3 _ _ first second even.result even.ensures c.if-is_level.true limbs.0 limbs.1) (sign_is g.x g.xl.now))
+    (r.ensures.0, r.ensures.1 _ _ (lower_held g.x g.xl.now g.y g.yl.now c.requires.0 c.requires.1 c.requires.2 c.requires.3 _ _ first second even.result even.ensures c.if-is_level.true limbs.0 limbs.1) (sign_is g.x g.xl.now))
 
-pub returns-then-is_level : goal.returns-then-is_level
-returns-then-is_level c = (refl, λ e. absurd (true≢false (sym c.nothing.ensures ∙ e)))
 
 pub overflow_sub-pair : goal.overflow_sub-pair
 overflow_sub-pair c =
@@ -66,4 +64,6 @@ pub returns : goal.returns
 returns c =
     let first = rw (to_z-of_z (record { sfits = c.struct_told-1.given.1.1.1.0.1 })) at c.counted_exponent-a.ensures in
     let second = rw (to_z-of_z (record { sfits = c.struct_told-2-1.given.1.1.1.0.1 })) at c.counted_exponent-b.ensures in
-    (c.read_as_said.auto.target, λ e. attempted_told c.args.mode c.args.p _ c.requires.4 (operand_of c.args.x c.args.xl.now) (operand_of c.args.y c.args.yl.now) c.requires.1 c.requires.3 c.is_second_larger-swapped.result _ _ _ _ c.read_as_said.result.first c.read_as_said.result.second (c.read_as_said.ensures.1 e _ _ (holding c.args.x c.args.xl.now c.args.y c.args.yl.now c.requires.0 c.requires.1 c.requires.2 c.requires.3 _ _ _ _ first second refl refl c.is_second_larger-swapped.result c.is_second_larger-swapped.ensures c.is_level.result c.is_level.ensures c.if-is_level.false _ _ _ _ c.either-top.ensures c.either-3.ensures c.either.ensures c.either-2.ensures) (sign_told c.args.x c.args.xl.now c.args.y c.args.yl.now c.requires.0 c.requires.1 c.requires.2 c.requires.3 _ _ _ _ first second refl refl c.is_second_larger-swapped.result c.is_second_larger-swapped.ensures c.is_level.result c.is_level.ensures c.if-is_level.false _ c.either-negative.ensures)))
+    let x = operand_of c.args.x c.args.xl.now in
+    let y = operand_of c.args.y c.args.yl.now in
+    (c.read_as_said.auto.target, attempts_told c.args.mode c.args.p _ c.requires.4 x y c.requires.1 c.requires.3 _ _ c.is_second_larger-swapped.result _ _ _ (holding c.args.x c.args.xl.now c.args.y c.args.yl.now c.requires.0 c.requires.1 c.requires.2 c.requires.3 _ _ _ _ first second refl refl c.is_second_larger-swapped.result c.is_second_larger-swapped.ensures c.is_level.result c.is_level.ensures c.if-is_level.false _ _ _ _ c.either-top.ensures c.either-3.ensures c.either.ensures c.either-2.ensures) (sign_told c.args.x c.args.xl.now c.args.y c.args.yl.now c.requires.0 c.requires.1 c.requires.2 c.requires.3 _ _ _ _ first second refl refl c.is_second_larger-swapped.result c.is_second_larger-swapped.ensures c.is_level.result c.is_level.ensures c.if-is_level.false _ c.either-negative.ensures) _ c.read_as_said.ensures.1)

@@ -8,18 +8,18 @@ use Rattle.ways.proofs.fill.Goals as goal
 pub is_deep-requires : goal.is_deep-requires
 is_deep-requires c = deep_asked c.args.p _ _ _ _ c.requires.0 c.requires.1
 
-pub fill-filled-requires : goal.fill-filled-requires
-fill-filled-requires c =
+pub fill-requires : goal.fill-requires
+fill-requires c =
     let t = c.is_deep.ensures c.if-is_deep.true in
     (c.requires.0, c.requires.1, t.0, t.1)
 
-pub fill-requires : goal.fill-requires
-fill-requires c = (room_kept _ _ _ c.if-is_deep.auto.target c.requires.0, c.requires.1)
+pub fill-requires-2 : goal.fill-requires-2
+fill-requires-2 c = (room_kept _ _ _ c.if-is_deep.auto.target c.requires.0, c.requires.1)
 
 pub shape_of-target : goal.shape_of-target
-shape_of-target c = c.fill.ensures.0 ∙ c.if-is_deep.auto.target
+shape_of-target c = c.fill-2.ensures.0 ∙ c.if-is_deep.auto.target
 
 pub returns : goal.returns
 returns c =
-    let f = c.fill in
+    let f = c.fill-2 in
     (f.ensures.0 ∙ c.if-is_deep.auto.target, fills_by c.args.mode c.args.negative c.args.p _ _ _ _ _ f.ensures.1 c.requires.1)

@@ -1,4 +1,5 @@
 -- `ways::read_as_said`: the two runs are those of the caller, in order. Assumes nothing.
+use Rattle.wide.proofs.InOrder.{attempts_held}
 use Rattle.ways.proofs.Chosen.{holding_named, offered_named}
 use Rattle.ways.proofs.read_as_said.Goals as goal
 
@@ -6,4 +7,4 @@ pub read_in_order-requires : goal.read_in_order-requires
 read_in_order-requires c = (c.requires.0, offered_named c.either-first.ensures c.either-second.ensures c.requires.1)
 
 pub returns : goal.returns
-returns c = (c.read_in_order.auto.target, λ e z w h sign. c.read_in_order.ensures.1 e z w (holding_named c.either-first.ensures c.either-second.ensures h) sign)
+returns c = (c.read_in_order.auto.target, attempts_held _ _ _ _ _ _ _ _ _ _ (λ z w h. holding_named c.either-first.ensures c.either-second.ensures h) _ c.read_in_order.ensures.1)

@@ -1,13 +1,11 @@
 -- `ways::read_in_order` is right since each way is, and its test tells what it asks. Assumes nothing.
 use mathlib.Core.Path.{sym, ◌∙◌}
-use Rattle.ways.proofs.Chosen.{far_asked, exchanged_told}
+use Rattle.ways.proofs.Chosen.{far_asked}
 use Rattle.ways.proofs.read_in_order.Goals as goal
 
 pub attempt-requires : goal.attempt-requires
 attempt-requires c = let t = c.is_near.ensures c.if-is_near.true in (c.requires.0, c.requires.1, t.0, t.1, t.2, t.3)
 
-pub returns-then-is_near : goal.returns-then-is_near
-returns-then-is_near c = let t = c.exchanged_if.ensures in (c.attempt.auto.target, λ e z w h sign. exchanged_told c.args.swapped t.1 t.2 t.3 t.4 t.5 (c.attempt.ensures.1 (sym t.0 ∙ e) z w h sign))
 
 pub is_far-requires : goal.is_far-requires
 is_far-requires c = far_asked c.args.p _ c.requires.0

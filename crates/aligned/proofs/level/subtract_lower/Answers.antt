@@ -11,7 +11,7 @@ overflow_sub-d c = let g = c.args in apart g.u g.v _ refl c.either.ensures c.eit
 pub returns-then-d-eq0 : goal.returns-then-d-eq0
 returns-then-d-eq0 c =
     let g = c.args in
-    (refl, search rules, λ x y l e. zero_told g.mode g.p g.top g.u g.v g.target.now c.requires.0 c.requires.1 _ refl c.either.ensures c.either-2.ensures g.negative x y l e c.if-d-eq0.true c.zero_sign.ensures refl)
+    (search rules, λ x y l e. zero_told g.mode g.p g.top g.u g.v g.target.now c.requires.0 c.requires.1 _ refl c.either.ensures c.either-2.ensures g.negative x y l e c.if-d-eq0.true c.zero_sign.ensures refl)
 
 pub overflow_sub-top : goal.overflow_sub-top
 overflow_sub-top c = let o = c.requires.2 in unit_room o.first o.second _ _ _ o.lower
@@ -28,4 +28,4 @@ pub returns : goal.returns
 returns c =
     let g = c.args in
     let r = c.round_fit-placed in
-    (refl, c.round_fit-placed.auto.target ∙ length-set g.target.now 0 _, λ x y l e. difference_told g.mode g.p g.top g.u g.v g.target.now c.requires.0 c.requires.1 _ refl c.either.ensures c.either-2.ensures g.negative x y l e c.if-d-eq0.false r.ensures.value r.ensures.target_after)
+    (c.round_fit-placed.auto.target ∙ length-set g.target.now 0 _, λ x y l e. difference_told g.mode g.p g.top g.u g.v g.target.now c.requires.0 c.requires.1 _ refl c.either.ensures c.either-2.ensures g.negative x y l e c.if-d-eq0.false r.ensures.value r.ensures.target_after)

@@ -28,8 +28,6 @@ is_inland-requires c =
     let m = modest in
     (m.top, omega (arith, m.first, c.inner_of-stop.ensures.first))
 
-pub returns-then-not-is_inland : goal.returns-then-not-is_inland
-returns-then-not-is_inland c = (refl, λ e. absurd (true≢false (sym c.none.ensures ∙ e)))
 
 -- ---- the first column
 pub overflow_sub-u : goal.overflow_sub-u
@@ -55,8 +53,6 @@ bounds-second-second c =
 pub begin-begun-requires : goal.begin-begun-requires
 begin-begun-requires c = tops_ordered _ _ _ _ _ c.requires.1.holding
 
-pub returns-then-digits-p : goal.returns-then-digits-p
-returns-then-digits-p c = (refl, λ e. absurd (true≢false (sym c.none-then-digits-p.ensures ∙ e)))
 
 pub rest_kept-x-requires : goal.rest_kept-x-requires
 rest_kept-x-requires c =
@@ -86,8 +82,6 @@ returns-then-is_settled c =
     let stored = c.filled.ensures in
     (ap length stored.limbs ∙ sym one, first_fills _ _ _ _ _ _ _ _ _ tested c.begin-begun.ensures.0 c.if-is_settled.true _ _ stored)
 
-pub returns-then-not-r : goal.returns-then-not-r
-returns-then-not-r c = (refl, λ e. absurd (true≢false (sym c.none-then-not-r.ensures ∙ e)))
 
 pub filled-requires-2 : goal.filled-requires-2
 filled-requires-2 c =

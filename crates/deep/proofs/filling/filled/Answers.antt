@@ -8,7 +8,6 @@ pub returns : goal.returns
 returns c =
     record {
       limbs = one_written c.args.target.now c.args.front.limb c.requires;
-      closed = refl;
       carry = refl;
       guard = refl;
       more_is = λ t rest h. ap (λ (b : Bool). c.args.more || b) (c.holds_more.ensures t rest h);

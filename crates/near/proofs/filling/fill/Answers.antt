@@ -4,6 +4,7 @@ use mathlib.Core.Bool.{true≢false}
 use Prim.Native.Nat.{ℕ, ◌+◌, ◌≤◌}
 use native.Mathlib.Omega.{arith}
 use Rattle.wide.proofs.FullTarget.{offered_sighted, offered_modest}
+use Rattle.std.proofs.lemmas.Option.{IfSome_then}
 use Rattle.near.proofs.Alongside.{deep}
 use Rattle.near.proofs.filling.fill.Goals as goal
 
@@ -15,8 +16,6 @@ is_inland-requires c =
     let g = offered_sighted c.args.p _ c.args.first.now c.args.second.now c.requires.1 c.args.target.now c.requires.0 in
     (g.top, g.target)
 
-pub returns-then-not-is_inland : goal.returns-then-not-is_inland
-returns-then-not-is_inland c = (refl, λ e. absurd (true≢false (sym c.none.ensures ∙ e)), λ e. absurd (true≢false (sym c.none.ensures ∙ e)))
 
 pub needs_guard-requires : goal.needs_guard-requires
 needs_guard-requires c = offered_modest c.args.p _ c.args.first.now c.args.second.now c.requires.1 _ _ c.requires.0 (near _)
@@ -27,7 +26,7 @@ fill_guarded-requires c = (c.requires.0, c.requires.1, c.requires.2, c.needs_gua
 pub returns-then-needs_guard : goal.returns-then-needs_guard
 returns-then-needs_guard c =
     let f = c.fill_guarded.ensures in
-    (f.0, f.1, deep c.args.p _ c.args.first.now c.args.second.now c.args.target.now c.requires.0 c.requires.2 (c.is_inland.ensures (c.if-not-is_inland.false)) c.requires.1 _ _ f.1)
+    (f.0, f.1, IfSome_then _ f.1 (deep c.args.p _ c.args.first.now c.args.second.now c.args.target.now c.requires.0 c.requires.2 (c.is_inland.ensures (c.if-not-is_inland.false)) c.requires.1 _))
 
 pub fill_full-requires : goal.fill_full-requires
 fill_full-requires c = (c.requires.0, c.requires.1, c.requires.2, c.is_inland.ensures (c.if-not-is_inland.false))
@@ -35,4 +34,4 @@ fill_full-requires c = (c.requires.0, c.requires.1, c.requires.2, c.is_inland.en
 pub returns : goal.returns
 returns c =
     let f = c.fill_full.ensures in
-    (f.0, f.1, deep c.args.p _ c.args.first.now c.args.second.now c.args.target.now c.requires.0 c.requires.2 (c.is_inland.ensures (c.if-not-is_inland.false)) c.requires.1 _ _ f.1)
+    (f.0, f.1, IfSome_then _ f.1 (deep c.args.p _ c.args.first.now c.args.second.now c.args.target.now c.requires.0 c.requires.2 (c.is_inland.ensures (c.if-not-is_inland.false)) c.requires.1 _))

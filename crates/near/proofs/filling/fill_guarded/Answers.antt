@@ -7,8 +7,6 @@ use Rattle.wide.proofs.FullTarget.{offered_second, offered_modest}
 use Rattle.near.proofs.Alongside.{guards}
 use Rattle.near.proofs.filling.fill_guarded.Goals as goal
 
-pub returns-then-carry : goal.returns-then-carry
-returns-then-carry c = (c.fill_moved-carry.ensures.size, λ e. absurd (true≢false (sym c.none.ensures ∙ e)))
 
 pub glance_guarded-requires : goal.glance_guarded-requires
 glance_guarded-requires c =

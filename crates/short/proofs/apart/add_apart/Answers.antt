@@ -6,5 +6,5 @@ pub returns : goal.returns
 returns c =
     let r = c.round-placed in (
       r.ensures.0,
-      λ e v z w h sign. apart_told c.args.p _ c.args.u v _ c.requires.0 c.requires.1 c.requires.3 _ z w h c.args.negative sign c.args.swapped (r.ensures.1 v z w h sign) c.one.ensures c.one-2.ensures,
+      λ v z w h sign. apart_told c.args.p _ c.args.u v _ c.requires.0 c.requires.1 c.requires.3 _ z w h c.args.negative sign c.args.swapped (r.ensures.1 v z w h sign) c.one.ensures c.one-2.ensures,
     )

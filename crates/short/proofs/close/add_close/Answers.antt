@@ -20,4 +20,4 @@ pub returns : goal.returns
 returns c =
     let n = c.normalize-n in
     let w = c.write in
-    (w.ensures.0, λ e o swapped z y h sign. near_tells c.args.p _ c.args.u c.args.v _ c.requires.0 c.requires.1 c.requires.3 c.requires.4 c.requires.5 o z y h n.result _ c.combine-h.ensures.0 n.ensures (search rules) (search rules) _ w.ensures.0 (λ i. (c.type_inv.target i).fits) w.ensures.1 c.args.negative sign c.depth.result c.depth.ensures swapped)
+    (w.ensures.0, λ o swapped z y h sign. near_tells c.args.p _ c.args.u c.args.v _ c.requires.0 c.requires.1 c.requires.3 c.requires.4 c.requires.5 o z y h n.result _ c.combine-h.ensures.0 n.ensures (search rules) (search rules) _ w.ensures.0 (λ i. (c.type_inv.target i).fits) w.ensures.1 c.args.negative sign c.depth.result c.depth.ensures swapped)

@@ -13,8 +13,6 @@ near n = omega arith
 pub is_prompt-requires : goal.is_prompt-requires
 is_prompt-requires c = offered_sighted _ _ c.args.first.now c.args.second.now c.requires.1 c.args.target.now c.requires.0
 
-pub returns-then-not-is_prompt : goal.returns-then-not-is_prompt
-returns-then-not-is_prompt c = (refl, λ e. absurd (true≢false (sym c.none.ensures ∙ e)))
 
 pub fill-w-requires : goal.fill-w-requires
 fill-w-requires c = (offered_sighted _ _ c.args.first.now c.args.second.now c.requires.1 c.args.target.now c.requires.0, c.is_prompt.ensures (c.if-not-is_prompt.false))

@@ -9,17 +9,10 @@ use Rattle.wide.proofs.exactly.glance_full.Goals as goal
 pub has_lead-requires : goal.has_lead-requires
 has_lead-requires c = room_some _ _ c.requires.0
 
-pub returns-then-not-has_lead : goal.returns-then-not-has_lead
-returns-then-not-has_lead c = λ first second before w a e. absurd (true≢false (sym c.none.ensures ∙ e))
 
 pub returns-then-is_read : goal.returns-then-is_read
-returns-then-is_read c = λ first second before w a e o x y h. read_rounds _ _ first second before _ w _ c.requires.0 a (sym c.has_lead.ensures ∙ c.if-not-has_lead.false) o x y h (row_read _ _ c.requires.2 (sym c.is_read.ensures ∙ c.if-is_read.true))
+returns-then-is_read c = λ first second before w a o x y h. read_rounds _ _ first second before _ w _ c.requires.0 a (sym c.has_lead.ensures ∙ c.if-not-has_lead.false) o x y h (row_read _ _ c.requires.2 (sym c.is_read.ensures ∙ c.if-is_read.true))
 
-pub returns-then-is_hollow : goal.returns-then-is_hollow
-returns-then-is_hollow c = λ first second before w a e. absurd (true≢false (sym c.none-then-is_hollow.ensures ∙ e))
-
-pub returns-then-not-is_inside : goal.returns-then-not-is_inside
-returns-then-not-is_inside c = λ first second before w a e. absurd (true≢false (sym c.none-then-not-is_inside.ensures ∙ e))
 
 pub returns : goal.returns
-returns c = λ first second before w a e o x y h. inside_rounds _ _ first second before _ w _ c.requires.0 a (sym c.has_lead.ensures ∙ c.if-not-has_lead.false) o x y h (c.is_inside.ensures (c.if-not-is_inside.false) w a.carry_is (full _ _ first second before _ w _ c.requires.0 a (sym c.has_lead.ensures ∙ c.if-not-has_lead.false) o x y h)) _ (c.more_below.ensures c.requires.2 (sym c.is_read.ensures ∙ c.if-is_read.false) (sym c.is_hollow.ensures ∙ c.if-is_hollow.false))
+returns c = λ first second before w a o x y h. inside_rounds _ _ first second before _ w _ c.requires.0 a (sym c.has_lead.ensures ∙ c.if-not-has_lead.false) o x y h (c.is_inside.ensures (c.if-not-is_inside.false) w a.carry_is (full _ _ first second before _ w _ c.requires.0 a (sym c.has_lead.ensures ∙ c.if-not-has_lead.false) o x y h)) _ (c.more_below.ensures c.requires.2 (sym c.is_read.ensures ∙ c.if-is_read.false) (sym c.is_hollow.ensures ∙ c.if-is_hollow.false))

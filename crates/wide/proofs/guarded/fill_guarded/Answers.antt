@@ -11,8 +11,6 @@ pub is_prompt-requires : goal.is_prompt-requires
 is_prompt-requires c =
     offered_sighted c.args.p _ c.args.first.now c.args.second.now c.requires.1 c.args.target.now c.requires.0
 
-pub returns-then-not-is_prompt : goal.returns-then-not-is_prompt
-returns-then-not-is_prompt c = (refl, λ e. absurd (true≢false (sym c.none.ensures ∙ e)))
 
 pub reaches_on-requires : goal.reaches_on-requires
 reaches_on-requires c =
@@ -21,8 +19,6 @@ reaches_on-requires c =
     let some = offered_second c.args.p _ c.args.first.now c.args.second.now c.requires.1 in
     guard_asked c.args.p _ c.args.first.now c.args.second.now c.args.target.now sight prompt some
 
-pub returns-then-not-reaches_on : goal.returns-then-not-reaches_on
-returns-then-not-reaches_on c = (refl, λ e. absurd (true≢false (sym c.none-then-not-reaches_on.ensures ∙ e)))
 
 pub guarded_columns-run-requires : goal.guarded_columns-run-requires
 guarded_columns-run-requires c =
@@ -32,8 +28,6 @@ guarded_columns-run-requires c =
     let w = guard_within c.args.p _ c.args.first.now c.args.second.now c.args.target.now sight prompt some (c.reaches_on.ensures (c.if-not-reaches_on.false)).0 in
     (refl, w.0, w.1)
 
-pub returns-then-run : goal.returns-then-run
-returns-then-run c = (c.guarded_columns-run.ensures.0, λ e. absurd (true≢false (sym c.none-then-run.ensures ∙ e)))
 
 pub glance_guarded-requires : goal.glance_guarded-requires
 glance_guarded-requires c =

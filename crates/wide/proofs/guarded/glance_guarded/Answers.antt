@@ -13,16 +13,12 @@ overflow_sub-top c = omega (arith, room_some _ _ c.requires.0)
 pub bounds-target-target : goal.bounds-target-target
 bounds-target-target c = omega (arith, room_some _ _ c.requires.0)
 
-pub returns-then-top-le1 : goal.returns-then-top-le1
-returns-then-top-le1 c = λ first second g e. absurd (true≢false (sym c.none.ensures ∙ e))
 
 pub returns-then-is_read : goal.returns-then-is_read
 returns-then-is_read c =
-    λ first second g e o x y h. guard_read _ _ first second _ _ c.requires.0 g (omega arith) (λ i. (c.shared_slice_known-1.given i).fits) c.if-top-le1.false o x y h (row_read _ _ c.requires.2 (sym c.is_read.ensures ∙ c.if-is_read.true))
+    λ first second g o x y h. guard_read _ _ first second _ _ c.requires.0 g (omega arith) (λ i. (c.shared_slice_known-1.given i).fits) c.if-top-le1.false o x y h (row_read _ _ c.requires.2 (sym c.is_read.ensures ∙ c.if-is_read.true))
 
-pub returns-then-not-is_inside : goal.returns-then-not-is_inside
-returns-then-not-is_inside c = λ first second g e. absurd (true≢false (sym c.none-then-not-is_inside.ensures ∙ e))
 
 pub returns : goal.returns
 returns c =
-    λ first second g e o x y h. guard_inside _ _ first second _ _ c.requires.0 g (omega arith) (λ i. (c.shared_slice_known-1.given i).fits) c.if-top-le1.false o x y h (c.is_inside.ensures (c.if-not-is_inside.false)) _ (c.more_below.ensures c.requires.2 (sym c.is_read.ensures ∙ c.if-is_read.false) (reached_more _ _ _ g.spent.reached))
+    λ first second g o x y h. guard_inside _ _ first second _ _ c.requires.0 g (omega arith) (λ i. (c.shared_slice_known-1.given i).fits) c.if-top-le1.false o x y h (c.is_inside.ensures (c.if-not-is_inside.false)) _ (c.more_below.ensures c.requires.2 (sym c.is_read.ensures ∙ c.if-is_read.false) (reached_more _ _ _ g.spent.reached))

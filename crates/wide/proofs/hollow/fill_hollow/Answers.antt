@@ -9,15 +9,11 @@ use Rattle.wide.proofs.hollow.fill_hollow.Goals as goal
 pub overflow_add-p : goal.overflow_add-p
 overflow_add-p c = omega (arith, sum_fits _ _ c.requires.0)
 
-pub returns-then-pair-p : goal.returns-then-pair-p
-returns-then-pair-p c = (refl, λ e. absurd (true≢false (sym c.none.ensures ∙ e)))
 
 pub is_prompt-requires : goal.is_prompt-requires
 is_prompt-requires c =
     offered_sighted c.args.p _ c.args.first.now c.args.second.now c.requires.1 c.args.target.now c.requires.0
 
-pub returns-then-not-is_prompt : goal.returns-then-not-is_prompt
-returns-then-not-is_prompt c = (refl, λ e. absurd (true≢false (sym c.none-then-not-is_prompt.ensures ∙ e)))
 
 pub fill_first-requires : goal.fill_first-requires
 fill_first-requires c =
@@ -25,7 +21,7 @@ fill_first-requires c =
 
 pub returns-then-pair : goal.returns-then-pair
 returns-then-pair c =
-    (c.fill_first.ensures.0, λ e o x y h. hollow_sum c.args.p _ c.args.first.now c.args.second.now c.args.target.now _ c.requires.0 c.requires.2 c.if-pair-p.false (c.is_prompt.ensures (c.if-not-is_prompt.false)) c.fill_first.ensures.0 (λ i. (c.type_inv.target i).fits) o x y h c.if-pair.true c.fill_first.ensures.1)
+    (c.fill_first.ensures.0, λ o x y h. hollow_sum c.args.p _ c.args.first.now c.args.second.now c.args.target.now _ c.requires.0 c.requires.2 c.if-pair-p.false (c.is_prompt.ensures (c.if-not-is_prompt.false)) c.fill_first.ensures.0 (λ i. (c.type_inv.target i).fits) o x y h c.if-pair.true c.fill_first.ensures.1)
 
 pub fill_less-requires : goal.fill_less-requires
 fill_less-requires c =
@@ -33,4 +29,4 @@ fill_less-requires c =
 
 pub returns : goal.returns
 returns c =
-    (c.fill_less.ensures.0, λ e o x y h. hollow_difference c.args.p _ c.args.first.now c.args.second.now c.args.target.now _ c.requires.0 c.requires.2 c.if-pair-p.false (c.is_prompt.ensures (c.if-not-is_prompt.false)) c.fill_less.ensures.0 (λ i. (c.type_inv.target i).fits) o x y h c.if-pair.false c.fill_less.ensures.1)
+    (c.fill_less.ensures.0, λ o x y h. hollow_difference c.args.p _ c.args.first.now c.args.second.now c.args.target.now _ c.requires.0 c.requires.2 c.if-pair-p.false (c.is_prompt.ensures (c.if-not-is_prompt.false)) c.fill_less.ensures.0 (λ i. (c.type_inv.target i).fits) o x y h c.if-pair.false c.fill_less.ensures.1)
