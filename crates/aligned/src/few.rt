@@ -16,6 +16,7 @@ ghost use Rattle.aligned.specs.Few.{Few, AbsoluteDifference};
 
 use crate::cancelled;
 use checks::Number;
+use choice::either;
 use place::Placed;
 use rounding::Mode;
 use twolimbs::Head;
@@ -40,13 +41,6 @@ fn at_top(l: &[u64]) -> Head
     }
 }
 
-// The first of two, or the second.
-fn either_head(second: bool, a: Head, b: Head) -> Head
-    ensures { result ≡ cond second b a }
-{
-    if second { b } else { a }
-}
-
 // The larger of two runs less the other, and whether the second is the larger.
 #[derive(Clone, Copy)]
 struct Apart {
@@ -63,9 +57,9 @@ fn difference(a: &[u64], b: &[u64]) -> Apart
     let x = at_top(a);
     let y = at_top(b);
     let swapped = choice::is_second_larger(x.high, y.high, x.low, y.low);
-    let d = twolimbs::difference(either_head(swapped, x, y), either_head(swapped, y, x));
+    let d = twolimbs::difference(either(swapped, x, y), either(swapped, y, x));
     Apart {
-        swapped: swapped,
+        swapped,
         high: d.high,
         low: d.low,
     }

@@ -34,14 +34,12 @@ fn alike(a: &[u64], b: &[u64]) -> usize
     ensures { Alike a.now b.now result }
 {
     let n = a.len();
-    let mut i = 0;
-    while i < n {
+    for i in 0..n {
         if a[n - 1 - i] != b[n - 1 - i] {
             return i;
         }
-        i += 1;
     }
-    i
+    n
 }
 
 // Whether the second of two runs is larger in the limb below the top z.

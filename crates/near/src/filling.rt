@@ -7,33 +7,23 @@ ghost use Rattle.wide.specs.Filling.{Offered, Fills};
 ghost use Rattle.wide.specs.Guarding.{Spent};
 ghost use Rattle.near.specs.Abreast.{Abreast, Moved, Guarding};
 
+use limb::Limb;
 use settle::Pair;
 use wide::Filled;
 
-// The limb below the target, and whether it borrows.
-#[derive(Clone, Copy)]
-pub struct Guard {
-    pub limb: u64,
-    pub borrow: bool,
-}
-
-// What falls below the target of the second operand, by its lowest limb: the first has nothing there.
-fn guard_of(same: bool, lowest: u64, gap: u64) -> Guard
+// What falls below the target of the second operand, by its lowest limb, and whether it borrows: the first has nothing there.
+fn guard_of(same: bool, lowest: u64, gap: u64) -> Limb
     requires { (0 < gap) × (gap < 64) }
-    ensures { Guarding same (lowest * 2 ^ (64 - gap) % 2 ^ 64) result.limb result.borrow }
+    ensures { Guarding same (lowest * 2 ^ (64 - gap) % 2 ^ 64) result.limb result.carry }
 {
     let below = lowest << (64 - gap);
     if same {
-        return Guard {
+        return Limb {
             limb: below,
-            borrow: false,
+            carry: false,
         };
     }
-    let d = limb::sub_borrow(0, below, false);
-    Guard {
-        limb: d.limb,
-        borrow: d.carry,
-    }
+    limb::sub_borrow(0, below, false)
 }
 
 // The first operand and the second, or the first less the second and a borrow. Returns the carry: a difference has none.
@@ -54,7 +44,7 @@ fn fill_guarded(p: u64, pair: Pair, first: &[u64], second: &[u64], target: &mut 
     ensures { (length target.new ≡ length target.old) × Fills p pair first.now second.now target.new result }
 {
     let guard = guard_of(pair.same, second[0], pair.gap);
-    let carry = fill_moved(pair, guard.borrow, first, second, target);
+    let carry = fill_moved(pair, guard.carry, first, second, target);
     if carry {
         return None;
     }

@@ -6,4 +6,4 @@ pub returns-then-same : goal.returns-then-same
 returns-then-same c = guarding_sum _ _ c.if-same.true
 
 pub returns : goal.returns
-returns c = guarding_difference _ _ _ _ c.if-same.false c.sub_borrow-d.ensures
+returns c = guarding_difference _ _ _ _ c.if-same.false c.sub_borrow.ensures
