@@ -9,7 +9,7 @@ ghost use Rattle.std.specs.Bool.{beq};
 ghost use Rattle.limb.specs.Value.{value_of};
 ghost use Rattle.checks.specs.Number.{operand_of};
 ghost use Rattle.twolimbs.specs.Two.{head_in};
-ghost use Rattle.descent.specs.Ready.{Room};
+ghost use Rattle.checks.specs.Room.{Room};
 ghost use Rattle.wide.specs.Attempted.{Attempts};
 ghost use Rattle.aligned.specs.Aligned.{Aligned};
 ghost use Rattle.aligned.specs.Few.{Few, AbsoluteDifference};

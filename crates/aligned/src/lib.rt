@@ -14,7 +14,7 @@ ghost use Rattle.numbers.specs.Operand.{Operand, WellFormed};
 ghost use Rattle.rounding.specs.declared.Mode.{Mode};
 ghost use Rattle.checks.specs.Number.{operand_of};
 ghost use Rattle.place.specs.Placed.{run_rule};
-ghost use Rattle.descent.specs.Ready.{Room};
+ghost use Rattle.checks.specs.Room.{Room};
 ghost use Rattle.wide.specs.Attempted.{Attempted, Attempts};
 ghost use Rattle.aligned.specs.Aligned.{Aligned, Cancelling, Alike, Reducible, Subtracted, Standing};
 

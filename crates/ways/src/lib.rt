@@ -4,7 +4,7 @@
 ghost use Rattle.std.specs.Prelude.{◌≡◌, true, false, not, cond, ◌+◌, ◌*◌, ◌^◌, ◌≤◌, ◌<◌, length};
 ghost use Rattle.numbers.specs.Operand.{WellFormed};
 ghost use Rattle.checks.specs.Number.{operand_of};
-ghost use Rattle.descent.specs.Ready.{Room};
+ghost use Rattle.checks.specs.Room.{Room};
 ghost use Rattle.wide.specs.Filling.{Offered, FillsBy};
 ghost use Rattle.wide.specs.Attempted.{Attempts, AttemptsInOrder};
 ghost use Rattle.deep.specs.Deep.{Deep};
