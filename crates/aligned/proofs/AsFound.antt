@@ -3,6 +3,7 @@ use mathlib.Core.Path.{◌≡◌, refl, sym, ap, ◌∙◌, subst}
 use mathlib.Core.Logic.{inl, inr}
 use mathlib.Core.Bool.{Bool, true, false, not, cond, beq}
 use mathlib.Core.List.{List}
+use denote.Bor.{Bor}
 use Prim.Native.Nat.{ℕ, ◌+◌, ◌-◌, ◌*◌, ◌%◌, ◌^◌, ◌≤◌, ◌<◌}
 use native.Mathlib.Omega.{arith}
 use lib.Dec.{ltb}
@@ -27,6 +28,11 @@ use Rattle.aligned.proofs.Clean.{none_below}
 use Rattle.aligned.proofs.Stands.{limbs_modest, standing_sum, standing_difference, parted, sign_told, reducible}
 
 -- ---- the same runs under other names
+
+-- a run that is chosen of two
+pub chosen_now : (s : Bool) (a b : Bor (List ℕ)) {r : Bor (List ℕ)} → r ≡ cond s b a → r.now ≡ cond s b.now a.now
+chosen_now true a b e = ap (λ (l : Bor (List ℕ)). l.now) e
+chosen_now false a b e = ap (λ (l : Bor (List ℕ)). l.now) e
 
 pub reducible_named : {a b first second : List ℕ} {n z : ℕ} → a ≡ first → b ≡ second → Reducible first second n z → Reducible a b n z
 reducible_named {a} {b} {first} {second} {n} {z} e f r = rw (e, f) r

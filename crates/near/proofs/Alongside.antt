@@ -179,8 +179,8 @@ module _ (p : ℕ) (pair : Pair) (first second before : List ℕ) (room : Room p
     abbrev h : Holding x y pair first second
     h = offered.holding
 
-    rounds : Rounds nearest p x y after r.carry r.guard r.more r.depth
-    rounds = fills nearest x y h
+    rounds : Rounds Nearest p x y after r.carry r.guard r.more r.depth
+    rounds = fills Nearest x y h
 
     fixed_at : (k : ℕ) → 1 ≤ k → Decides (decide_at Nearest p x y k) (Fixed plus Nearest p x y k)
     fixed_at k K = decides_fixed Nearest p (digits_some p n room) x y h.course.ordered.first h.course.ordered.second k K

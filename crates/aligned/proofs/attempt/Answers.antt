@@ -22,7 +22,7 @@ pub round_whole-requires : goal.round_whole-requires
 round_whole-requires c =
     let top = exponent_told c.args.x c.args.xl.now _ (rw (to_z-of_z (record { sfits = c.struct_told-1.given.1.1.1.0.1 })) at c.counted_exponent-top.ensures) in
     let a = aligned_told c.args.x c.args.xl.now c.args.y c.args.yl.now _ c.requires.0 c.requires.1 c.requires.2 c.requires.3 c.requires.4 c.requires.5 c.requires.6 in
-    asks 0 c.args.p _ _ _ _ _ _ (sum_stands c.args.p c.args.x c.args.xl.now c.args.y c.args.yl.now c.args.target.now _ c.requires.7 a top (not_true _ c.if-x-y.false) (sym c.is_high.ensures ∙ c.if-is_high.false) c.sum-carry.ensures (λ i. (c.slice_known-2-1.given i).fits))
+    asks c.args.mode c.args.p _ _ _ _ _ _ (sum_stands c.args.p c.args.x c.args.xl.now c.args.y c.args.yl.now c.args.target.now _ c.requires.7 a top (not_true _ c.if-x-y.false) (sym c.is_high.ensures ∙ c.if-is_high.false) c.sum-carry.ensures (λ i. (c.slice_known-2-1.given i).fits))
 
 pub returns : goal.returns
 returns c =

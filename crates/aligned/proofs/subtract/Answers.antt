@@ -56,7 +56,7 @@ settle_whole-requires c =
     c.requires.3 (sym c.is_low.ensures ∙ c.if-is_low.false) c.subtract_in_order.ensures c.if-target-n-eq0.false in
     let clean : c.args.x.precision ≤ c.args.p → c.args.y.precision ≤ c.args.p → value_of difference % 2 ^ (64 * length difference - c.args.p) ≡ 0 = difference_clean c.args.p c.args.x c.args.xl.now c.args.y c.args.yl.now c.args.target.now c.args.top c.requires.0 c.requires.1 _ c.alike-z.ensures c.if-z-n.false c.requires.2 _ c.is_second_larger-swapped.ensures
     stands in
-    let ok = asks 0 c.args.p _ _ _ _ _ _ stands in
+    let ok = asks c.args.mode c.args.p _ _ _ _ _ _ stands in
     let few = both_true _ _ c.if-x-p.true in
     (ok.0, ok.1, clean (leb-true _ _ few.0) (leb-true _ _ few.1))
 
@@ -83,7 +83,7 @@ round_whole-requires c =
     let difference : List ℕ = c.subtract_in_order.new.target in
     let stands : Standing c.args.p (cond swapped second first) (cond swapped first second) difference false skipped c.args.top = difference_stands c.args.p c.args.x c.args.xl.now c.args.y c.args.yl.now c.args.target.now c.args.top c.requires.0 c.requires.1 _ c.alike-z.ensures c.if-z-n.false c.requires.2 _ c.is_second_larger-swapped.ensures
     c.requires.3 (sym c.is_low.ensures ∙ c.if-is_low.false) c.subtract_in_order.ensures c.if-target-n-eq0.false in
-    asks 0 c.args.p _ _ _ _ _ _ stands
+    asks c.args.mode c.args.p _ _ _ _ _ _ stands
 
 pub returns : goal.returns
 returns c =
