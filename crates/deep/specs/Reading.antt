@@ -1,5 +1,5 @@
 -- Columns passed over, one more, and why it fixes the answer. Definitions only.
-use Rattle.std.specs.Prelude.{ℕ, suc, ◌+◌, ◌-◌, ◌*◌, ◌^◌, ◌≤◌, ◌<◌, ◌≡◌, ◌⊎◌, Bool, true, false, cond, not, ◌||◌, List, [], ◌∷◌, eqb}
+use Rattle.std.specs.Prelude.{ℕ, suc, ◌-◌, ◌*◌, ◌^◌, ◌≤◌, ◌<◌, ◌≡◌, ◌⊎◌, Bool, true, false, cond, not, ◌||◌, List, [], ◌∷◌, eqb}
 use Rattle.std.specs.Float.Ieee.{size}
 use Rattle.numbers.specs.Operand.{Operand}
 use Rattle.walk.specs.declared.state.Tail.{Tail}

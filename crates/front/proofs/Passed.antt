@@ -1,6 +1,5 @@
 -- Laws of columns passed over: none, one more, and those below the first column. Assumes nothing.
 use mathlib.Core.Path.{◌≡◌, sym, ap, ◌∙◌}
-use mathlib.Core.Bool.{Bool, true, false}
 use mathlib.Core.List.{List}
 use Prim.Native.Nat.{ℕ, zero, suc, ◌+◌, ◌-◌, ◌*◌, ◌^◌, ◌≤◌, ◌<◌}
 use native.Mathlib.Nat.{mul-one, pow-zero}
@@ -10,8 +9,7 @@ use lib.Bits.{bit_or, or_add_and, and_le_l, and_le_r}
 use Rattle.columns.specs.Column.{read_to, column_of}
 use Rattle.columns.proofs.Reading.{read_more, column_lt}
 use Rattle.walk.proofs.Tails.{column_weight}
-use Rattle.settle.specs.declared.rows.Pair.{Pair}
-use Rattle.front.specs.Passing.{NotPast, PassedZeros, PassedOnes, PassedAlike, PassedBelow}
+use Rattle.front.specs.Passing.{PassedZeros, PassedOnes, PassedAlike}
 
 -- no digit of either is 1: both are 0
 both_zero : (a b : ℕ) → bit_or a b ≡ 0 → a + b ≡ 0

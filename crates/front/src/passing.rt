@@ -6,7 +6,13 @@ ghost use Rattle.front.specs.Passing.{NotPast, PassedZeros, PassedOnes, PassedAl
 use settle::Pair;
 
 // Passes the columns after the first, up to the first whose limbs of both operands do not go on alike, or up to the stop.
-fn pass_while<F: Fn(u64, u64) -> bool>(pair: Pair, first: &[u64], second: &[u64], stop: u64, goes_on: F) -> u64
+fn pass_while<F: Fn(u64, u64) -> bool>(
+    pair: Pair,
+    first: &[u64],
+    second: &[u64],
+    stop: u64,
+    goes_on: F,
+) -> u64
     requires { F.IsAlwaysCallable goes_on }
     ensures { NotPast 1 stop result × ((k : ℕ) → 1 ≤ k → k < result → F.post goes_on (column_of k 0 first.now) (column_of k pair.gap second.now) true) }
 {

@@ -39,7 +39,13 @@ fn fill_moved(pair: Pair, borrow: bool, first: &[u64], second: &[u64], target: &
 }
 
 // The target has no digit to spare: the columns that fill it, and the guard.
-fn fill_guarded(p: u64, pair: Pair, first: &[u64], second: &[u64], target: &mut [u64]) -> Option<Filled>
+fn fill_guarded(
+    p: u64,
+    pair: Pair,
+    first: &[u64],
+    second: &[u64],
+    target: &mut [u64],
+) -> Option<Filled>
     requires { Room p (length target.old) × Offered pair first.now second.now × Abreast pair first.now second.now (length target.old) × Spent p pair (length target.old) × Inland pair (length target.old) }
     ensures { (length target.new ≡ length target.old) × Fills p pair first.now second.now target.new result }
 {
@@ -52,7 +58,13 @@ fn fill_guarded(p: u64, pair: Pair, first: &[u64], second: &[u64], target: &mut 
 }
 
 // The columns that fill the target alone.
-fn fill_full(p: u64, pair: Pair, first: &[u64], second: &[u64], target: &mut [u64]) -> Option<Filled>
+fn fill_full(
+    p: u64,
+    pair: Pair,
+    first: &[u64],
+    second: &[u64],
+    target: &mut [u64],
+) -> Option<Filled>
     requires { Room p (length target.old) × Offered pair first.now second.now × Abreast pair first.now second.now (length target.old) × Inland pair (length target.old) }
     ensures { (length target.new ≡ length target.old) × Fills p pair first.now second.now target.new result }
 {

@@ -182,9 +182,7 @@ fn add_regular<'a>(
     let same = x.negative == y.negative;
     if is_level(same, a, b, u, v) {
         if is_lower(xl.len(), yl.len(), target.len()) {
-            return Some(aligned::subtract_lower(
-                mode, x.negative, p, a, xl[0], yl[0], target,
-            ));
+            return Some(aligned::subtract_lower(mode, x.negative, p, a, xl[0], yl[0], target));
         }
         return None;
     }

@@ -15,7 +15,7 @@ use Rattle.limb.proofs.Tests.{both_true}
 use Rattle.numbers.specs.Limits.{counted, least_precision, most_precision, most_exponent, limbs_for}
 use Rattle.numbers.specs.Operand.{Operand, WellFormed}
 use Rattle.rounding.specs.declared.Mode.{Mode}
-use Rattle.rounding.specs.Answer.{Answer, rounded}
+use Rattle.rounding.specs.Answer.{Answer}
 use Rattle.rounding.specs.Sum.{add}
 use Rattle.rounding.proofs.Order.{le_or_lt}
 use Rattle.rounding.proofs.Zeros.{add_commutes}

@@ -1,5 +1,5 @@
 -- What is told of a sum that is read at once: its depth, its answer, and the limbs used. Definitions only.
-use Rattle.std.specs.Prelude.{ℕ, ◌-◌, ◌≤◌, ◌≡◌, Bool, List, Option, IfSome, cond}
+use Rattle.std.specs.Prelude.{ℕ, ◌≤◌, ◌≡◌, Bool, List, Option, IfSome, cond}
 use Rattle.numbers.specs.Operand.{Operand}
 use Rattle.rounding.specs.declared.Mode.{Mode}
 use Rattle.rounding.specs.Sum.{add}

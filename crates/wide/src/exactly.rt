@@ -81,7 +81,13 @@ pub fn glance_full(p: u64, pair: Pair, carry: bool, target: &[u64]) -> Option<Fi
 }
 
 // Fills the target with as many columns as it has limbs.
-pub fn fill_exactly(p: u64, pair: Pair, first: &[u64], second: &[u64], target: &mut [u64]) -> Option<Filled>
+pub fn fill_exactly(
+    p: u64,
+    pair: Pair,
+    first: &[u64],
+    second: &[u64],
+    target: &mut [u64],
+) -> Option<Filled>
     requires { Room p (length target.old) × Offered pair first.now second.now }
     ensures { (length target.new ≡ length target.old) × Fills p pair first.now second.now target.new result }
 {

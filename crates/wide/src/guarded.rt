@@ -61,7 +61,13 @@ fn reaches_on(pair: Pair, second: usize, n: u64) -> bool
 }
 
 // Fills the target with as many columns as it has limbs, and reads one more.
-pub fn fill_guarded(p: u64, pair: Pair, first: &[u64], second: &[u64], target: &mut [u64]) -> Option<Filled>
+pub fn fill_guarded(
+    p: u64,
+    pair: Pair,
+    first: &[u64],
+    second: &[u64],
+    target: &mut [u64],
+) -> Option<Filled>
     requires { Room p (length target.old) × Offered pair first.now second.now × Spent p pair (length target.old) }
     ensures { (length target.new ≡ length target.old) × Fills p pair first.now second.now target.new result }
 {

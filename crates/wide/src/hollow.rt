@@ -32,7 +32,13 @@ fn fill_less(target: &mut [u64], first: &[u64], m: u64)
 }
 
 // Fills the target with the first operand, and a little more below it, or a little less.
-pub fn fill_hollow(p: u64, pair: Pair, first: &[u64], second: &[u64], target: &mut [u64]) -> Option<Filled>
+pub fn fill_hollow(
+    p: u64,
+    pair: Pair,
+    first: &[u64],
+    second: &[u64],
+    target: &mut [u64],
+) -> Option<Filled>
     requires { Room p (length target.old) × Offered pair first.now second.now × ((leb (64 * length target.old) pair.gap && leb pair.first (64 * length target.old)) ≡ true) }
     ensures { (length target.new ≡ length target.old) × Fills p pair first.now second.now target.new result }
 {

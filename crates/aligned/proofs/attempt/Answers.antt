@@ -1,6 +1,5 @@
 -- `aligned::attempt` is right since all that there is of a sum of like signs stands in the target with its carry, and of unlike signs the two are subtracted. Assumes nothing.
-use mathlib.Core.Path.{refl, sym, ◌∙◌}
-use mathlib.Core.Bool.{true≢false}
+use mathlib.Core.Path.{sym, ◌∙◌}
 use mir.Facts.{to_z-of_z}
 use Rattle.descent.proofs.AtOnce.{not_true}
 use Rattle.aligned.proofs.Whole.{asks}
@@ -16,7 +15,6 @@ pub is_high-requires : goal.is_high-requires
 is_high-requires c =
     let top = exponent_told c.args.x c.args.xl.now _ (rw (to_z-of_z (record { sfits = c.struct_told-1.given.1.1.1.0.1 })) at c.counted_exponent-top.ensures) in
     top_modest _ _ _ _ (aligned_told c.args.x c.args.xl.now c.args.y c.args.yl.now _ c.requires.0 c.requires.1 c.requires.2 c.requires.3 c.requires.4 c.requires.5 c.requires.6) top
-
 
 pub round_whole-requires : goal.round_whole-requires
 round_whole-requires c =

@@ -1,6 +1,6 @@
 -- `aligned::subtract` is right since the difference of the limbs below those that are alike is all that there is, and the two may change places. Assumes nothing.
-use mathlib.Core.Path.{◌≡◌, refl, sym, ◌∙◌}
-use mathlib.Core.Bool.{Bool, false, not, cond, beq, true≢false}
+use mathlib.Core.Path.{◌≡◌, sym, ◌∙◌}
+use mathlib.Core.Bool.{Bool, false, not, cond, beq}
 use mathlib.Core.List.{List}
 use Prim.Native.Nat.{ℕ, ◌-◌, ◌*◌, ◌%◌, ◌^◌, ◌≤◌}
 use native.Mathlib.Omega.{arith}
@@ -22,7 +22,6 @@ is_low-requires c =
     let m = limbs_modest c.args.p _ c.requires.0 in
     (top_modest _ _ _ _ c.requires.1 c.requires.3, omega arith)
 
-
 pub alike-z-requires : goal.alike-z-requires
 alike-z-requires c = as_many c.args.p c.args.x c.args.xl.now c.args.y c.args.yl.now c.args.target.now c.args.top c.requires.0 c.requires.1
 
@@ -43,7 +42,6 @@ overflow_sub-n c = room_some _ _ c.requires.0
 
 pub bounds-target-n : goal.bounds-target-n
 bounds-target-n c = omega (arith, room_some _ _ c.requires.0, c.subtract_in_order.auto.target)
-
 
 pub settle_whole-requires : goal.settle_whole-requires
 settle_whole-requires c =

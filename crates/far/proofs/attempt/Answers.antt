@@ -1,6 +1,4 @@
 -- `far::attempt` is right since the first operand and a little more, or a little less, rounds as the second does whatever stands in it. Assumes nothing.
-use mathlib.Core.Path.{refl, sym, ◌∙◌}
-use mathlib.Core.Bool.{true≢false}
 use native.Mathlib.Omega.{arith}
 use Rattle.wide.proofs.FullTarget.{offered_sighted}
 use Rattle.far.specs.Alone.{Alone}
@@ -15,7 +13,6 @@ pub is_inland-requires : goal.is_inland-requires
 is_inland-requires c =
     let w = offered_sighted c.args.p _ c.args.first.now c.args.second.now c.requires.1 c.args.target.now c.requires.0 in
     (w.top, omega (arith, w.target))
-
 
 pub round-placed-requires : goal.round-placed-requires
 round-placed-requires c =

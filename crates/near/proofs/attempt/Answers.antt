@@ -1,12 +1,10 @@
 -- `near::attempt` is right since what fills the target is rounded once, and all limbs of both operands are used. Assumes nothing.
-use mathlib.Core.Path.{sym, ◌∙◌}
-use mathlib.Core.Bool.{true≢false}
+use mathlib.Core.Path.{◌∙◌}
 use native.Mathlib.Omega.{arith}
 use Rattle.descent.proofs.GoingDown.{room_kept, room_some}
 use Rattle.wide.proofs.InOrder.{limbs_weigh, unit_room, fit, in_order_told}
 use Rattle.near.proofs.Alongside.{all_used, used_alike}
 use Rattle.near.proofs.attempt.Goals as goal
-
 
 pub overflow_mul-n : goal.overflow_mul-n
 overflow_mul-n c = let w = limbs_weigh c.args.p _ (room_kept _ _ _ c.fill.ensures.0 c.requires.0) in omega arith

@@ -1,6 +1,5 @@
 -- `short::add_in_order` is right in each way. Assumes nothing.
-use mathlib.Core.Path.{refl, sym, ◌∙◌}
-use mathlib.Core.Bool.{true≢false}
+use mathlib.Core.Path.{sym, ◌∙◌}
 use native.Mathlib.Omega.{arith}
 use Rattle.wide.proofs.InHollow.{sum_fits}
 use Rattle.short.proofs.Held.{top_room, room_few, neither}
@@ -12,7 +11,6 @@ is_high-requires c = (top_room _ _ _ _ _ c.requires.2.holding).1
 pub is_low-requires : goal.is_low-requires
 is_low-requires c = ((top_room _ _ _ _ _ c.requires.2.holding).1, room_few c.args.p _ c.requires.0)
 
-
 pub add_close-requires : goal.add_close-requires
 add_close-requires c =
     let t = neither _ _ c.if-is_high-is_low.false in
@@ -23,7 +21,6 @@ returns-then-pair-lt64 c = (c.add_close.ensures.0, c.add_close.ensures.1 _ c.arg
 
 pub overflow_add-p : goal.overflow_add-p
 overflow_add-p c = omega (arith, sum_fits _ _ c.requires.0)
-
 
 pub add_apart-requires : goal.add_apart-requires
 add_apart-requires c = (c.requires.0, c.requires.1, (c.args.v, c.requires.2), c.if-pair-p.false)

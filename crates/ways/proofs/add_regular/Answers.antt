@@ -47,7 +47,6 @@ returns-then-is_lower c =
     let r = c.subtract_lower in
     (r.ensures.0, r.ensures.1 _ _ (lower_held g.x g.xl.now g.y g.yl.now c.requires.0 c.requires.1 c.requires.2 c.requires.3 _ _ first second even.result even.ensures c.if-is_level.true limbs.0 limbs.1) (sign_is g.x g.xl.now))
 
-
 pub overflow_sub-pair : goal.overflow_sub-pair
 overflow_sub-pair c =
     let first = rw (to_z-of_z (record { sfits = c.struct_told-1.given.1.1.1.0.1 })) at c.counted_exponent-a.ensures in

@@ -6,7 +6,6 @@ use Rattle.ways.proofs.read_in_order.Goals as goal
 pub attempt-requires : goal.attempt-requires
 attempt-requires c = let t = c.is_near.ensures c.if-is_near.true in (c.requires.0, c.requires.1, t.0, t.1, t.2, t.3)
 
-
 pub is_far-requires : goal.is_far-requires
 is_far-requires c = far_asked c.args.p _ c.requires.0
 

@@ -7,7 +7,6 @@ use Rattle.wide.proofs.InOrder.{limbs_weigh, unit_room, fit, few, in_order_told}
 use Rattle.ways.proofs.Chosen.{counts_back}
 use Rattle.ways.proofs.round_filled.Goals as goal
 
-
 pub overflow_mul-target : goal.overflow_mul-target
 overflow_mul-target c = let w = limbs_weigh c.args.p _ (room_kept _ _ _ c.fill.auto.target c.requires.0) in omega arith
 

@@ -1,5 +1,5 @@
 -- `aligned::few::subtract` is right since the difference is exact, a zero or digits that from the first on fill the target. Assumes nothing.
-use mathlib.Core.Path.{refl, sym, ◌∙◌}
+use mathlib.Core.Path.{sym, ◌∙◌}
 use mathlib.Core.Bool.{true≢false}
 use native.Mathlib.Omega.{arith}
 use Rattle.aligned.proofs.AsFound.{top_modest, sign_is}
@@ -9,7 +9,6 @@ use Rattle.aligned.proofs.few.subtract.Goals as goal
 
 pub is_low-requires : goal.is_low-requires
 is_low-requires c = (top_modest _ _ _ _ c.requires.1 c.requires.3, omega (arith, c.requires.0.1))
-
 
 pub difference-d-requires : goal.difference-d-requires
 difference-d-requires c = lengths_told c.args.x c.args.xl.now c.args.y c.args.yl.now _ c.requires.0 c.requires.1

@@ -1,6 +1,5 @@
 -- `deep::fill` is right since it fills the target only where the first column settles the sum, or where the columns after it leave it open up to one that fixes it. Assumes nothing.
-use mathlib.Core.Path.{◌≡◌, refl, sym, ap, ◌∙◌, subst}
-use mathlib.Core.Bool.{true≢false}
+use mathlib.Core.Path.{◌≡◌, sym, ap, ◌∙◌, subst}
 use Prim.Native.Nat.{ℕ, ◌+◌, ◌-◌, ◌*◌, ◌≤◌, ◌<◌}
 use native.Mathlib.Omega.{arith}
 use lib.ListN.{length}
@@ -28,7 +27,6 @@ is_inland-requires c =
     let m = modest in
     (m.top, omega (arith, m.first, c.inner_of-stop.ensures.first))
 
-
 -- ---- the first column
 pub overflow_sub-u : goal.overflow_sub-u
 overflow_sub-u c =
@@ -52,7 +50,6 @@ bounds-second-second c =
 
 pub begin-begun-requires : goal.begin-begun-requires
 begin-begun-requires c = tops_ordered _ _ _ _ _ c.requires.1.holding
-
 
 pub rest_kept-x-requires : goal.rest_kept-x-requires
 rest_kept-x-requires c =
@@ -81,7 +78,6 @@ returns-then-is_settled c =
     } in
     let stored = c.filled.ensures in
     (ap length stored.limbs ∙ sym one, first_fills _ _ _ _ _ _ _ _ _ tested c.begin-begun.ensures.0 c.if-is_settled.true _ _ stored)
-
 
 pub filled-requires-2 : goal.filled-requires-2
 filled-requires-2 c =

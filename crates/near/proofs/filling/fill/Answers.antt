@@ -1,6 +1,4 @@
 -- `near::fill` is right whichever way it goes, and no fewer columns than fill the target fix the answer. Assumes nothing.
-use mathlib.Core.Path.{refl, sym, ◌∙◌}
-use mathlib.Core.Bool.{true≢false}
 use Prim.Native.Nat.{ℕ, ◌+◌, ◌≤◌}
 use native.Mathlib.Omega.{arith}
 use Rattle.wide.proofs.FullTarget.{offered_sighted, offered_modest}
@@ -15,7 +13,6 @@ pub is_inland-requires : goal.is_inland-requires
 is_inland-requires c =
     let g = offered_sighted c.args.p _ c.args.first.now c.args.second.now c.requires.1 c.args.target.now c.requires.0 in
     (g.top, g.target)
-
 
 pub needs_guard-requires : goal.needs_guard-requires
 needs_guard-requires c = offered_modest c.args.p _ c.args.first.now c.args.second.now c.requires.1 _ _ c.requires.0 (near _)

@@ -1,12 +1,9 @@
 -- `near::fill_guarded` is right since one column more is what falls below the target, and a glance tells what both fix. Assumes nothing.
-use mathlib.Core.Path.{sym, ◌∙◌}
-use mathlib.Core.Bool.{true≢false}
 use native.Mathlib.Nat.{le_refl}
 use Rattle.descent.proofs.GoingDown.{room_kept}
 use Rattle.wide.proofs.FullTarget.{offered_second, offered_modest}
 use Rattle.near.proofs.Alongside.{guards}
 use Rattle.near.proofs.filling.fill_guarded.Goals as goal
-
 
 pub glance_guarded-requires : goal.glance_guarded-requires
 glance_guarded-requires c =

@@ -1,6 +1,5 @@
 -- `wide::fill_exactly` is right since the columns that fill the target are read, and a glance tells what they fix. Assumes nothing.
-use mathlib.Core.Path.{refl, sym, ◌∙◌}
-use mathlib.Core.Bool.{true≢false}
+use mathlib.Core.Path.{refl}
 use Prim.Native.Nat.{ℕ, ◌+◌, ◌≤◌}
 use native.Mathlib.Omega.{arith}
 use Rattle.descent.proofs.GoingDown.{room_kept}
@@ -12,7 +11,6 @@ near n = omega arith
 
 pub is_prompt-requires : goal.is_prompt-requires
 is_prompt-requires c = offered_sighted _ _ c.args.first.now c.args.second.now c.requires.1 c.args.target.now c.requires.0
-
 
 pub fill-w-requires : goal.fill-w-requires
 fill-w-requires c = (offered_sighted _ _ c.args.first.now c.args.second.now c.requires.1 c.args.target.now c.requires.0, c.is_prompt.ensures (c.if-not-is_prompt.false))

@@ -1,6 +1,5 @@
 -- `wide::fill_guarded` is right since the columns that fill the target and one more are read, and a glance tells what they fix. Assumes nothing.
-use mathlib.Core.Path.{refl, sym, ◌∙◌}
-use mathlib.Core.Bool.{true≢false}
+use mathlib.Core.Path.{refl}
 use native.Mathlib.Nat.{le_refl}
 use Rattle.descent.proofs.GoingDown.{room_kept}
 use Rattle.wide.proofs.FullTarget.{offered_sighted, offered_second, offered_modest}
@@ -11,14 +10,12 @@ pub is_prompt-requires : goal.is_prompt-requires
 is_prompt-requires c =
     offered_sighted c.args.p _ c.args.first.now c.args.second.now c.requires.1 c.args.target.now c.requires.0
 
-
 pub reaches_on-requires : goal.reaches_on-requires
 reaches_on-requires c =
     let sight = offered_sighted c.args.p _ c.args.first.now c.args.second.now c.requires.1 c.args.target.now c.requires.0 in
     let prompt = c.is_prompt.ensures (c.if-not-is_prompt.false) in
     let some = offered_second c.args.p _ c.args.first.now c.args.second.now c.requires.1 in
     guard_asked c.args.p _ c.args.first.now c.args.second.now c.args.target.now sight prompt some
-
 
 pub guarded_columns-run-requires : goal.guarded_columns-run-requires
 guarded_columns-run-requires c =
@@ -27,7 +24,6 @@ guarded_columns-run-requires c =
     let some = offered_second c.args.p _ c.args.first.now c.args.second.now c.requires.1 in
     let w = guard_within c.args.p _ c.args.first.now c.args.second.now c.args.target.now sight prompt some (c.reaches_on.ensures (c.if-not-reaches_on.false)).0 in
     (refl, w.0, w.1)
-
 
 pub glance_guarded-requires : goal.glance_guarded-requires
 glance_guarded-requires c =

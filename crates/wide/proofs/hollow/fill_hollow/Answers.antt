@@ -1,6 +1,4 @@
 -- `wide::fill_hollow` is right since a little more than the first operand, or a little less, rounds as the second does whatever stands in it. Assumes nothing.
-use mathlib.Core.Path.{refl, sym, ◌∙◌}
-use mathlib.Core.Bool.{true≢false}
 use native.Mathlib.Omega.{arith}
 use Rattle.wide.proofs.FullTarget.{offered_sighted}
 use Rattle.wide.proofs.InHollow.{sum_fits, covers, hollow_sum, hollow_difference}
@@ -9,11 +7,9 @@ use Rattle.wide.proofs.hollow.fill_hollow.Goals as goal
 pub overflow_add-p : goal.overflow_add-p
 overflow_add-p c = omega (arith, sum_fits _ _ c.requires.0)
 
-
 pub is_prompt-requires : goal.is_prompt-requires
 is_prompt-requires c =
     offered_sighted c.args.p _ c.args.first.now c.args.second.now c.requires.1 c.args.target.now c.requires.0
-
 
 pub fill_first-requires : goal.fill_first-requires
 fill_first-requires c =
