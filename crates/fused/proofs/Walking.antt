@@ -51,9 +51,24 @@ module _ (column : Column) (x y : ℕ) (first : Bool) (n : ℕ) where
       let all : take i t ≡ t = ap (λ (m : ℕ). take m t) (e ∙ sym a.size) ∙ take-length t in
       record { size = a.size; value = rw (all, e, mod-eq_of_lt hx, mod-eq_of_lt hy, base_pow n) at a.value }
 
--- limb i of two runs
-pub fused_by : (column : Column) → Joins column → (a b : List ℕ) → Below (2 ^ 64) a → Below (2 ^ 64) b → (first : Bool) (n : ℕ) (t after : List ℕ) (i j : ℕ) (k out : Bool) → j ≡ i + 1 → i < n
-    → LimbFused column i (get_or a i 0) (get_or b i 0) k t after out → FusedTo column i (value_in (2 ^ 64) a) (value_in (2 ^ 64) b) first n t k
-    → FusedTo column j (value_in (2 ^ 64) a) (value_in (2 ^ 64) b) first n after out
-fused_by column joins a b ha hb first n t after i j k out ej h l inv =
-    rw ej (limb_fused column (value_in (2 ^ 64) a) (value_in (2 ^ 64) b) first n joins t after i _ _ k out h (limb_bits a i ha) (limb_bits b i hb) l inv)
+-- limb i of two runs, and four limbs of them in a row
+module _ (column : Column) (joins : Joins column) (a b : List ℕ) (ha : Below (2 ^ 64) a) (hb : Below (2 ^ 64) b) (first : Bool) (n : ℕ) where
+  abbrev x : ℕ
+  x = value_in (2 ^ 64) a
+
+  abbrev y : ℕ
+  y = value_in (2 ^ 64) b
+
+  pub fused_by : (t after : List ℕ) (i j : ℕ) (k out : Bool) → j ≡ i + 1 → i < n → LimbFused column i (get_or a i 0) (get_or b i 0) k t after out
+      → FusedTo column i x y first n t k → FusedTo column j x y first n after out
+  fused_by t after i j k out ej h l inv = rw ej (limb_fused column x y first n joins t after i _ _ k out h (limb_bits a i ha) (limb_bits b i hb) l inv)
+
+  pub four_fused : (t c d e after : List ℕ) (i j : ℕ) (k p q r out : Bool) → j ≡ i + 4 → i + 3 < n
+      → LimbFused column i (get_or a i 0) (get_or b i 0) k t c p → LimbFused column (i + 1) (get_or a (i + 1) 0) (get_or b (i + 1) 0) p c d q
+      → LimbFused column (i + 2) (get_or a (i + 2) 0) (get_or b (i + 2) 0) q d e r → LimbFused column (i + 3) (get_or a (i + 3) 0) (get_or b (i + 3) 0) r e after out
+      → FusedTo column i x y first n t k → FusedTo column j x y first n after out
+  four_fused t c d e after i j k p q r out ej h l₀ l₁ l₂ l₃ inv =
+      fused_by e after (i + 3) j r out (omega (arith, ej)) (omega arith) l₃
+      (fused_by d e (i + 2) (i + 3) q r (omega arith) (omega arith) l₂
+      (fused_by c d (i + 1) (i + 2) p q (omega arith) (omega arith) l₁
+      (fused_by t c i (i + 1) k p refl (omega arith) l₀ inv)))

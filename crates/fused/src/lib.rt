@@ -22,7 +22,7 @@ fn set_limb<S: Step>(target: &mut [u64], i: usize, x: u64, y: u64, carry: bool) 
     s.carry
 }
 
-// The walk over two runs. Returns the carry out. Four limbs a turn are one chain of steps.
+// The walk over two runs. Returns the carry out. Four limbs a turn, written out, are one chain of steps.
 fn fuse<S: Step>(target: &mut [u64], a: &[u64], b: &[u64]) -> bool
     requires { (length a.now ≡ length target.old) × (length b.now ≡ length target.old) }
     ensures { FusedOf S.column (value_of a.now) (value_of b.now) false (length target.old) target.new result }
@@ -30,10 +30,11 @@ fn fuse<S: Step>(target: &mut [u64], a: &[u64], b: &[u64]) -> bool
     let turns = target.len() / 4;
     let mut carry = false;
     for turn in 0..turns {
-        for lane in 0..4 {
-            let i = 4 * turn + lane;
-            carry = set_limb::<S>(target, i, a[i], b[i], carry);
-        }
+        let i = 4 * turn;
+        carry = set_limb::<S>(target, i, a[i], b[i], carry);
+        carry = set_limb::<S>(target, i + 1, a[i + 1], b[i + 1], carry);
+        carry = set_limb::<S>(target, i + 2, a[i + 2], b[i + 2], carry);
+        carry = set_limb::<S>(target, i + 3, a[i + 3], b[i + 3], carry);
     }
     for i in 4 * turns..target.len() {
         carry = set_limb::<S>(target, i, a[i], b[i], carry);

@@ -1,22 +1,18 @@
 -- Laws of `Added`, `Subtracted` and `Reversed`: two answers that meet the same promise agree, and what each says of the whole target.
 -- Assumes nothing.
-use mathlib.Core.Path.{◌≡◌, refl, sym, ap, ◌∙◌}
+use mathlib.Core.Path.{◌≡◌, sym, ap, ◌∙◌}
 use mathlib.Core.Bool.{Bool}
-use mathlib.Core.List.{List, [], ◌++◌}
+use mathlib.Core.List.{List, ◌++◌}
 use Prim.Native.Nat.{ℕ, ◌+◌, ◌-◌, ◌*◌, ◌^◌, ◌≤◌, ◌<◌}
-use native.Mathlib.Nat.{pow-zero, pow-succ', add_assoc, add-sub_of_le}
-use native.Mathlib.Numerals.{add-one}
+use native.Mathlib.Nat.{add_assoc}
 use native.Mathlib.Omega.{arith}
-use lib.ListN.{length, take, drop, set, get_or, take-append-drop, length-set, length-drop}
-use lib.Seq.{take-add, length-take-le}
-use borrow.Rule.Slice.PartMut.{put_mid, take_put, same_len_mid}
+use lib.ListN.{length, take, drop, take-append-drop, length-drop}
 use Rattle.limb.proofs.Powers.{pow_split}
 use Rattle.limb.specs.Carry.{bit}
 use Rattle.limb.specs.Value.{value_in, Below}
 use Rattle.limb.proofs.Carry.{sum_unique, difference_unique}
-use Rattle.limb.proofs.Value.{value_nil, value_take, value_set, value_append, value_split, value_lt, value_unique, below_part, value_kept}
-use Rattle.run.specs.Sum.{LimbsAdded, Added, Subtracted, Reversed, AddedAt, SubtractedAt}
-use Rattle.parts.proofs.Parts.{part_is, drop_put}
+use Rattle.limb.proofs.Value.{value_split, value_lt, value_unique, below_part, value_kept}
+use Rattle.run.specs.Sum.{Added, Subtracted, Reversed, AddedAt, SubtractedAt}
 
 -- two answers that meet the promise of a sum, or of a difference either way, are one
 module _ (xs ys : List ℕ) (p q : Bool) (hx : Below (2 ^ 64) xs) (hy : Below (2 ^ 64) ys) (before operand : List ℕ) (carry : Bool) where

@@ -15,7 +15,7 @@ use Rattle.limb.specs.Carry.{bit}
 use Rattle.limb.specs.Column.{Column, Begins, Joins}
 use Rattle.limb.specs.Value.{value_in}
 use Rattle.limb.proofs.Value.{value_nil, value_append, value_take, value_split}
-use Rattle.run.specs.Walk.{LimbStepped, Stepped, SteppedAt}
+use Rattle.run.specs.Walk.{LimbStepped, FourStepped, Stepped, SteppedAt}
 use Rattle.parts.proofs.Parts.{part_is, drop_put, put_value}
 
 -- t₀ has become t below limb i: what stood there, the operand's limbs and the carry in are one column, with the carry k on top.
@@ -75,10 +75,18 @@ module _ (column : Column) (joins : Joins column) where
     }
 
     -- the same of a limb that `LimbStepped` speaks of
-    pub stepped_by : (t a : List ℕ) (i j : ℕ) (k n : Bool) → j ≡ i + 1 → i < length t₀ → LimbStepped column i t o k a n → SteppedTo column i t₀ o first t k
+    stepped_by : (t a : List ℕ) (i j : ℕ) (k n : Bool) → j ≡ i + 1 → i < length t₀ → LimbStepped column i t o k a n → SteppedTo column i t₀ o first t k
         → SteppedTo column j t₀ o first a n
     stepped_by t a i j k n ej h s inv =
         rw (ej, s.others) (limb_stepped t k i (get_or o i 0) (get_or a i 0) n (omega (arith, inv.same_length)) refl s.limb inv)
+
+    pub four_stepped : (t a : List ℕ) (i j : ℕ) (k n : Bool) → j ≡ i + 4 → i + 3 < length t₀ → FourStepped column i t o k a n → SteppedTo column i t₀ o first t k
+        → SteppedTo column j t₀ o first a n
+    four_stepped t a i j k n ej h s inv =
+        stepped_by s.after_three a (i + 3) j s.carry_three n (omega (arith, ej)) (omega arith) s.highest
+        (stepped_by s.after_two s.after_three (i + 2) (i + 3) s.carry_two s.carry_three (omega arith) (omega arith) s.third
+        (stepped_by s.after_one s.after_two (i + 1) (i + 2) s.carry_one s.carry_two (omega arith) (omega arith) s.second
+        (stepped_by t s.after_one i (i + 1) k s.carry_one refl (omega arith) s.lowest inv)))
 
   -- the limbs below limb i have been stepped through, and then those of the part from there on
   module _ (t₀ o : List ℕ) (first : Bool) (t : List ℕ) (k : Bool) (i : ℕ) (part : List ℕ) (out : Bool) (hi : i ≤ length t₀) (ho : length t₀ ≤ length o) where

@@ -4,8 +4,8 @@
 //     operand      ..  o[2]  o[1]   o[0]       0 past its end; limbs above the target are not looked at
 //     carry                         carry
 //
-ghost use Rattle.std.specs.Prelude.{◌≤◌, ◌<◌, length, drop};
-ghost use Rattle.run.specs.Walk.{LimbStepped, Stepped, SteppedAt};
+ghost use Rattle.std.specs.Prelude.{◌+◌, ◌≤◌, ◌<◌, length, drop};
+ghost use Rattle.run.specs.Walk.{LimbStepped, FourStepped, Stepped, SteppedAt};
 
 use limb::Step;
 use parts::{limb_at, part_from};
@@ -18,6 +18,17 @@ fn step_limb<S: Step>(target: &mut [u64], operand: &[u64], i: usize, carry: bool
     let s = S::limb(target[i], operand[i], carry);
     target[i] = s.limb;
     s.carry
+}
+
+// Four limbs from limb i on, written out: one chain of steps. Returns the carry out.
+fn step_four<S: Step>(target: &mut [u64], operand: &[u64], i: usize, carry: bool) -> bool
+    requires { (i + 4 ≤ length target.old) × (i + 4 ≤ length operand.now) }
+    ensures { FourStepped S.column i target.old operand.now carry target.new result }
+{
+    let mut up = step_limb::<S>(target, operand, i, carry);
+    up = step_limb::<S>(target, operand, i + 1, up);
+    up = step_limb::<S>(target, operand, i + 2, up);
+    step_limb::<S>(target, operand, i + 3, up)
 }
 
 // The walk with one limb a turn, which may pass the operand's end.
@@ -41,10 +52,7 @@ fn step_few<S: Step>(target: &mut [u64], operand: &[u64], carry: bool) -> bool
     if target.len() < 4 {
         return step_each::<S>(target, operand, carry);
     }
-    let mut up = carry;
-    for i in 0..4 {
-        up = step_limb::<S>(target, operand, i, up);
-    }
+    let up = step_four::<S>(target, operand, 0, carry);
     step_each::<S>(&mut target[4..], &operand[4..], up)
 }
 
@@ -59,9 +67,8 @@ pub fn step_into<S: Step>(target: &mut [u64], operand: &[u64], carry: bool) -> b
     let turns = target.len() / 8;
     let mut up = carry;
     for turn in 0..turns {
-        for i in 0..8 {
-            up = step_limb::<S>(target, operand, 8 * turn + i, up);
-        }
+        up = step_four::<S>(target, operand, 8 * turn, up);
+        up = step_four::<S>(target, operand, 8 * turn + 4, up);
     }
     step_few::<S>(&mut target[8 * turns..], &operand[8 * turns..], up)
 }

@@ -1,21 +1,19 @@
 -- Laws of the low k bits of a run: a limb below the cut that is not 0 decides, and else the limb at the cut. Assumes nothing.
 use mathlib.Core.Bool.{true, false}
-use mathlib.Core.Path.{◌≡◌, refl, sym, ap, ◌∙◌, subst}
-use Prim.Native.Nat.{ℕ, zero, suc, ◌+◌, ◌-◌, ◌*◌, ◌/◌, ◌%◌, ◌^◌, ◌≤◌, ◌<◌}
-use native.Mathlib.Nat.{zero-mod, zero-mul, mul-pos, pos_of_ne-zero, add-mul-mod_self_left, mul_assoc, ne_of_gt, add-zero}
+use mathlib.Core.Path.{◌≡◌, refl, sym, ap, ◌∙◌}
+use Prim.Native.Nat.{ℕ, zero, suc, ◌+◌, ◌-◌, ◌*◌, ◌/◌, ◌%◌, ◌^◌, ◌<◌}
+use native.Mathlib.Nat.{zero-mod, zero-mul, mul-pos, add-mul-mod_self_left, mul_assoc, ne_of_gt, add-zero}
 use native.Mathlib.Decide.{dec_le}
 use native.Mathlib.Omega.{arith}
-use native.Mathlib.Numerals.{add-one}
 use mathlib.Core.List.{List, [], ◌∷◌}
 use lib.Dec.{eqb}
-use lib.ListN.{length, get_or, take, drop}
+use lib.ListN.{get_or, take, drop}
 use lib.Pow.{pow_pos, pow-add, mod-pow-add, mod-mod-pow}
-use lib.Seq.{take_all}
 use borrow.Author.Tests.{eq-eqb, ne_eqb, eqb-true, false-eqb}
 use Rattle.std.specs.List.{list_all}
 use Rattle.limb.proofs.Tests.{zero_times}
 use Rattle.limb.specs.Value.{value_in, Below}
-use Rattle.limb.proofs.Value.{value_take, value_drop, value_low, value_shr, base_pow}
+use Rattle.limb.proofs.Value.{value_drop, value_low, value_shr, base_pow}
 
 -- m is 0 exactly where m times a power is
 scaled : (m j : ℕ) → eqb m 0 ≡ eqb (m * 2 ^ j) 0

@@ -3,18 +3,19 @@
 use Rattle.std.proofs.Common.{◌≡◌, ℕ, ◌*◌, ◌/◌, ◌^◌, length, refl, arith}
 use Rattle.limb.specs.Value.{Below}
 use Rattle.limb.proofs.Value.{value_lt}
-use Rattle.fused.proofs.Walking.{none_fused, fused_by, all_fused}
+use Rattle.fused.proofs.Walking.{none_fused, fused_by, four_fused, all_fused}
 use Rattle.fused.proofs.fuse.Goals as goal
 
 pub loop-turn-init : goal.loop-turn-init
 loop-turn-init g c = none_fused _ _ _ _ _ g.met.S.Step.begins _ refl
 
-pub loop-lane-preserved : goal.loop-lane-preserved
-loop-lane-preserved g c =
-    let l = c.loop-lane in
+pub loop-turn-preserved : goal.loop-turn-preserved
+loop-turn-preserved g c =
+    let l = c.loop-turn in
     let a : Below (2 ^ 64) c.args.a.now = λ i. (c.shared_slice_known-1.given i).fits in
     let b : Below (2 ^ 64) c.args.b.now = λ i. (c.shared_slice_known-2-1.given i).fits in
-    (l.invariant.0, fused_by _ g.met.S.Step.joins _ _ a b _ _ l.target _ _ _ l.carry _ (omega arith) (omega arith) c.set_limb-carry.ensures l.invariant.1)
+    four_fused _ g.met.S.Step.joins _ _ a b _ _ l.target _ _ _ _ (4 * l.turn) _ l.carry _ _ _ _ (omega arith) (omega arith)
+    c.set_limb-carry.ensures c.set_limb-carry-in-loop-turn.ensures c.set_limb-carry-in-loop-turn-2.ensures c.set_limb-carry-in-loop-turn-3.ensures l.invariant
 
 pub loop-i-init : goal.loop-i-init
 loop-i-init g c =

@@ -1,6 +1,6 @@
 -- `shifts::move_into` is right since the 64 bits that come to limb i lie across the run's limb i and the next, and the limbs that the loop
 -- leaves are those of the part from there on, moved down alike. Assumes nothing.
-use Rattle.std.proofs.Common.{◌≡◌, ℕ, ◌-◌, ◌≤◌, ◌∙◌, min, length, arith}
+use Rattle.std.proofs.Common.{◌≡◌, ℕ, ◌≤◌, ◌∙◌, length, arith}
 use lib.ListN.{length-drop}
 use Rattle.shifts.proofs.Windows.{none_written, limb_written, across_twice, window_moved, part_moved, rest_written}
 use Rattle.parts.proofs.Parts.{part_is}

@@ -1,5 +1,5 @@
 -- `run::step_at` is right since the part from the start on is worked on alone and put back over the limbs below it. Assumes nothing.
-use Rattle.std.proofs.Common.{◌≡◌, List, [], ℕ, drop, refl, arith}
+use Rattle.std.proofs.Common.{◌≡◌, [], drop, refl, arith}
 use lib.ListN.{drop_of_length-le}
 use Rattle.run.proofs.Stepping.{nothing_stepped, part_stepped}
 use Rattle.run.proofs.walk.step_at.Goals as goal

@@ -1,21 +1,13 @@
--- `run::step_few` is right since the lowest four limbs are stepped through one after the other, and those above them are left to `step_each`.
--- Assumes nothing.
-use Rattle.std.proofs.Common.{◌≡◌, refl, arith}
+-- `run::step_few` is right since after the lowest four limbs the part from there on is left to `step_each`. Assumes nothing.
+use Rattle.std.proofs.Common.{refl, arith}
 use Rattle.parts.proofs.Parts.{part_is}
-use Rattle.run.proofs.Stepping.{none_stepped, stepped_by, rest_stepped}
+use Rattle.run.proofs.Stepping.{none_stepped, four_stepped, rest_stepped}
 use Rattle.run.proofs.walk.step_few.Goals as goal
-
-pub loop-i-init : goal.loop-i-init
-loop-i-init g c = none_stepped _ g.met.S.Step.begins _ _ _
-
-pub loop-i-preserved : goal.loop-i-preserved
-loop-i-preserved g c =
-    let l = c.loop-i in
-    stepped_by _ g.met.S.Step.joins _ _ _ l.target _ l.i _ l.up _ refl (omega arith) c.step_limb-up.ensures l.invariant
 
 pub returns : goal.returns
 returns g c =
-    let l = c.loop-i in
-    let four : l.i ≡ 4 = omega arith in
-    rest_stepped _ g.met.S.Step.joins _ _ _ l.target l.up 4 _ _ (omega arith) (omega arith) (rw four at l.invariant)
-    (rw (part_is l.target 4, part_is c.args.operand.now 4) at c.step_each-2.ensures)
+    let t = c.step_four-up.new.target in
+    let joins = g.met.S.Step.joins in
+    rest_stepped _ joins _ _ _ t c.step_four-up.result 4 _ _ (omega arith) (omega arith)
+    (four_stepped _ joins _ _ _ _ t 0 4 _ _ refl (omega arith) c.step_four-up.ensures (none_stepped _ g.met.S.Step.begins _ _ _))
+    (rw (part_is t 4, part_is c.args.operand.now 4) at c.step_each-2.ensures)
