@@ -4,6 +4,7 @@
 //     b          b[n-1] ..  b[1]   b[0]      or b moved down by less than a limb
 //     target     t[n-1] ..  t[1]   t[0]
 //
+// Each function asks that its runs are of one length: a struct of the three slices would be made for one call and taken apart in it.
 #![tactic(auto)]
 
 ghost use Rattle.std.specs.Prelude.{◌≡◌, false, ◌+◌, ◌*◌, ◌/◌, ◌%◌, ◌^◌, ◌<◌, length};

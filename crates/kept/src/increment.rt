@@ -4,10 +4,8 @@ ghost use Rattle.limb.specs.Carry.{bit};
 ghost use Rattle.limb.specs.Value.{value_of};
 ghost use Rattle.kept.specs.Walk.{UnitAdded, RoundedUp};
 
+use limb::FIRST_DIGIT;
 use location::power;
-
-// 2^63: the first digit of a limb.
-const FIRST_DIGIT: u64 = 9223372036854775808;
 
 // Whether the last kept digit is 1.
 pub fn is_odd(target: &[u64], spare: u64) -> bool
@@ -23,15 +21,13 @@ fn add_unit(target: &mut [u64], spare: u64) -> bool
     ensures { UnitAdded spare target.old result target.new }
 {
     let mut add = power(spare);
-    let mut i = 0;
-    while i < target.len() {
+    for limb in target.iter_mut() {
         if add == 0 {
             return false;
         }
-        let s = limb::add_carry(target[i], add, false);
-        target[i] = s.limb;
+        let s = limb::add_carry(*limb, add, false);
+        *limb = s.limb;
         add = s.carry as u64;
-        i += 1;
     }
     add != 0
 }
@@ -52,8 +48,8 @@ pub fn round_up(target: &mut [u64], spare: u64, up: bool) -> bool
     true
 }
 
-// One limb with the last unit where it is asked for, and whether all digits were ones.
-#[derive(Clone, Copy)]
+// One limb with the last unit where it is asked for, and whether all digits were ones: the limb is the answer's either way.
+#[derive(Clone, Copy, Debug, PartialEq, Eq)]
 pub struct Raised {
     pub limb: u64,
     pub over: bool,

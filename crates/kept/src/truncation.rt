@@ -30,9 +30,7 @@ fn move_down(target: &mut [u64])
     ensures { Holds (length target.old) (((2 ^ 64) ^ length target.old + value_of target.old) / 2) target.new }
 {
     let mut down = 1;
-    let mut i = target.len();
-    while 0 < i {
-        i -= 1;
+    for i in (0..target.len()).rev() {
         let limb = target[i];
         target[i] = (limb >> 1) | (down << 63);
         down = limb % 2;
@@ -45,12 +43,10 @@ fn move_up(target: &mut [u64], guard: u64, k: u64)
     ensures { LowLimbs (length target.old) (value_of target.old * 2 ^ k + guard / 2 ^ (64 - k)) target.new }
 {
     let mut up = guard >> (64 - k);
-    let mut i = 0;
-    while i < target.len() {
-        let limb = target[i];
-        target[i] = (limb << k) | up;
-        up = limb >> (64 - k);
-        i += 1;
+    for limb in target.iter_mut() {
+        let out = *limb >> (64 - k);
+        *limb = (*limb << k) | up;
+        up = out;
     }
 }
 
