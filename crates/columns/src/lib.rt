@@ -4,6 +4,8 @@
 ghost use Rattle.std.specs.Prelude.{◌≡◌};
 ghost use Rattle.columns.specs.Column.{column_of, limb_below};
 
+use shifts::moved;
+
 // The limb that stands i limbs below the top, 0 past the lowest.
 fn limb_below_top(limbs: &[u64], precision: u64, i: u64) -> u64
     ensures { result ≡ limb_below i limbs.now }
@@ -39,5 +41,5 @@ pub fn column(limbs: &[u64], precision: u64, gap: u64, j: u64) -> u64
         return low >> bits;
     }
     let high = limb_below_top(limbs, precision, i - 1);
-    (high << (64 - bits)) | (low >> bits)
+    moved(low, high, bits)
 }

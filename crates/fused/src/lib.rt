@@ -12,6 +12,7 @@ ghost use Rattle.limb.specs.Value.{value_of};
 ghost use Rattle.fused.specs.Fused.{LimbFused, FusedOf, SumOf, DifferenceOf};
 
 use limb::{Adding, Step, Taking};
+use shifts::moved;
 
 // Limb i of the target, from a limb of each run and the carry of the limbs below. Returns the carry out.
 fn set_limb<S: Step>(target: &mut [u64], i: usize, x: u64, y: u64, carry: bool) -> bool
@@ -57,18 +58,6 @@ pub fn difference(target: &mut [u64], a: &[u64], b: &[u64]) -> bool
     ensures { DifferenceOf (value_of a.now) (value_of b.now) false (length target.old) target.new result }
 {
     fuse::<Taking>(target, a, b)
-}
-
-// The limb of two neighbours moved down by gap bits.
-//
-//     [     high    ]  [     low     ]
-//             [  the limb ][   gap   ]
-//
-fn moved(low: u64, high: u64, gap: u64) -> u64
-    requires { (0 < gap) × (gap < 64) }
-    ensures { result ≡ (low + 2 ^ 64 * high) / 2 ^ gap % 2 ^ 64 }
-{
-    (low >> gap) | (high << (64 - gap))
 }
 
 // The walk over a and b / 2^gap with a carry in. Returns the carry out.

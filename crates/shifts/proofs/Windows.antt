@@ -1,10 +1,10 @@
 -- Laws of a run read at any bit: 64 bits lie in one limb or across two, and a run moved by bits is made of such windows. Assumes nothing.
 use mathlib.Core.Path.{◌≡◌, refl, sym, ap, ◌∙◌, subst}
-use Prim.Native.Nat.{ℕ, suc, ◌+◌, ◌-◌, ◌*◌, ◌/◌, ◌%◌, ◌^◌, ◌≤◌, ◌<◌}
-use native.Mathlib.Nat.{add-mul-div_left, add-mul-mod_self_left, add-mod-mod, mod-add-div, mod-eq_of_lt, mod-lt, mul-mod_left, mul-one, add_comm, add-zero, div-one, mod-one}
+use Prim.Native.Nat.{ℕ, zero, suc, ◌+◌, ◌-◌, ◌*◌, ◌/◌, ◌%◌, ◌^◌, ◌≤◌, ◌<◌}
+use native.Mathlib.Nat.{add-mul-div_left, add-mul-mod_self_left, add-mod-mod, mod-add-div, mod-eq_of_lt, mod-lt, mul-mod_left, mul-one, add_comm, add-zero, zero-add, div-one, mod-one}
 use native.Mathlib.Omega.{arith}
 use native.Mathlib.Numerals.{add-one}
-use mathlib.Core.List.{List}
+use mathlib.Core.List.{List, [], ◌∷◌}
 use lib.ListN.{length, take, drop, get_or, set, length-set, length-drop}
 use lib.Arith.{digits_lt, mod-mul}
 use lib.Pow.{pow_pos, pow-add, mod-pow-add, shl-shr, shr-shr, shr_lt}
@@ -83,6 +83,27 @@ module _ (l : List ℕ) (q t : ℕ) (ht : t < 64) (h : Below (2 ^ 64) l) where
   part_moved =
       let x : ℕ = value_in (2 ^ 64) l in
       sym (ap (λ (m : ℕ). x / 2 ^ t / m) (base_pow q) ∙ shr-shr x t (64 * q) ∙ ap (λ (m : ℕ). x / 2 ^ m) (add_comm t (64 * q)) ∙ from_limb)
+
+module _ (B low high : ℕ) (hl : low < B) (hh : high < B) where
+  two_below : Below B (low ∷ high ∷ [])
+  two_below zero = hl
+  two_below (suc zero) = hh
+  two_below (suc (suc i)) = omega arith
+
+  two_value : value_in B (low ∷ high ∷ []) ≡ low + B * high
+  unfolding value_in
+  two_value = omega arith
+
+-- the high bits of a limb and the low bits of the next
+pub moved_bits : (low high t : ℕ) → t < 64 → low < 2 ^ 64 → high < 2 ^ 64
+    → bit_or (low / 2 ^ t) (high * 2 ^ (64 - t) % 2 ^ 64) ≡ (low + 2 ^ 64 * high) / 2 ^ t % 2 ^ 64
+moved_bits low high t ht hl hh =
+    rw zero-add at (across (low ∷ high ∷ []) 0 t ht (two_below (2 ^ 64) low high hl hh)) ∙ ap (λ (m : ℕ). m / 2 ^ t % 2 ^ 64) (two_value (2 ^ 64) low high hl hh)
+
+-- so 64 bits from a bit of limb q on are two limbs moved down
+pub between : (l : List ℕ) (q t : ℕ) → t < 64 → Below (2 ^ 64) l
+    → (get_or l q 0 + 2 ^ 64 * get_or l (q + 1) 0) / 2 ^ t % 2 ^ 64 ≡ value_in (2 ^ 64) l / 2 ^ (64 * q + t) % 2 ^ 64
+between l q t ht h = sym (moved_bits (get_or l q 0) (get_or l (q + 1) 0) t ht (h q) (h (q + 1))) ∙ across l q t ht h
 
 -- a run moved down by k bits is what is left of it above limb k / 64, moved down by less than a limb
 pub moved_down : (l : List ℕ) (k : ℕ) → Below (2 ^ 64) l → value_in (2 ^ 64) (drop (k / 64) l) / 2 ^ (k % 64) ≡ value_in (2 ^ 64) l / 2 ^ k

@@ -8,12 +8,19 @@ ghost use Rattle.shifts.specs.LowLimbs.{LowLimbs};
 
 use parts::{copy, limb_at, part_from};
 
-// The 64 bits from bit `bits` of limb `limbs` on.
+// The limb of two neighbours moved down by some bits.
 //
-//     limb limbs + 1      limb limbs
 //     [     high    ]  [     low     ]
-//             [  64 bits  ][  bits   ]
+//             [  the limb ][   bits  ]
 //
+pub fn moved(low: u64, high: u64, bits: u64) -> u64
+    requires { (0 < bits) × (bits < 64) }
+    ensures { result ≡ (low + 2 ^ 64 * high) / 2 ^ bits % 2 ^ 64 }
+{
+    (low >> bits) | (high << (64 - bits))
+}
+
+// The 64 bits from bit `bits` of limb `limbs` on, from that limb and the next.
 fn window_at(s: &[u64], limbs: usize, bits: usize) -> u64
     requires { (limbs + 1 < 2 ^ 64) × (bits < 64) }
     ensures { result ≡ value_of s.now / 2 ^ (64 * limbs + bits) % 2 ^ 64 }
@@ -23,7 +30,7 @@ fn window_at(s: &[u64], limbs: usize, bits: usize) -> u64
         low
     } else {
         let high = limb_at(s, limbs + 1);
-        (low >> bits) | (high << (64 - bits))
+        moved(low, high, bits as u64)
     }
 }
 

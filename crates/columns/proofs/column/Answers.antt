@@ -1,5 +1,8 @@
 -- `walk::column` is right since a column's digits stand in one limb, or in the last digits of a limb and the first of the next. Assumes nothing.
-use mathlib.Core.Path.{◌∙◌}
+use Rattle.std.proofs.Common.{◌≡◌, ℕ, ◌-◌, ◌*◌, ◌/◌, ◌%◌, ◌^◌, ◌<◌, sym, ◌∙◌, arith, rules}
+use lib.Bits.{bit_or, or_comm}
+use Rattle.shifts.proofs.Windows.{moved_bits}
+use Rattle.columns.specs.Column.{column_of}
 use Rattle.columns.proofs.Reading.{column_early, column_whole, column_top, column_across}
 use Rattle.columns.proofs.column.Goals as goal
 
@@ -21,4 +24,9 @@ returns-then-i-eq0 c =
 pub returns : goal.returns
 returns c =
     let g = c.args in
-    rw (c.limb_below_top-low.ensures, c.limb_below_top-high.ensures) (column_across g.limbs.now g.gap g.j (λ i. (c.type_inv.limbs i).fits) c.if-j-whole.false c.if-i-eq0.false)
+    let low : ℕ = c.limb_below_top-low.result in
+    let high : ℕ = c.limb_below_top-high.result in
+    let b : ℕ = g.gap % 64 in
+    let across : bit_or (high * 2 ^ (64 - b) % 2 ^ 64) (low / 2 ^ b) ≡ column_of g.j g.gap g.limbs.now =
+    rw (c.limb_below_top-low.ensures, c.limb_below_top-high.ensures) (column_across g.limbs.now g.gap g.j (λ i. (c.type_inv.limbs i).fits) c.if-j-whole.false c.if-i-eq0.false) in
+    c.moved.ensures ∙ sym (moved_bits low high b (omega arith) (search rules) (search rules)) ∙ or_comm (low / 2 ^ b) (high * 2 ^ (64 - b) % 2 ^ 64) ∙ across
