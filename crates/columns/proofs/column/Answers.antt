@@ -1,5 +1,5 @@
 -- `walk::column` is right since a column's digits stand in one limb, or in the last digits of a limb and the first of the next. Assumes nothing.
-use Rattle.std.proofs.Common.{◌≡◌, ℕ, ◌-◌, ◌*◌, ◌/◌, ◌%◌, ◌^◌, ◌<◌, sym, ◌∙◌, arith, rules}
+use Rattle.std.proofs.Common.{◌≡◌, ℕ, ◌-◌, ◌*◌, ◌/◌, ◌%◌, ◌^◌, sym, ◌∙◌, arith, rules}
 use lib.Bits.{bit_or, or_comm}
 use Rattle.shifts.proofs.Windows.{moved_bits}
 use Rattle.columns.specs.Column.{column_of}

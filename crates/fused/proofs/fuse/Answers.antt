@@ -1,6 +1,6 @@
 -- `fused::fuse` is right since after i limbs the lowest i limbs of the runs give the target's lowest i limbs, with the carry on top.
 -- Assumes nothing.
-use Rattle.std.proofs.Common.{◌≡◌, ℕ, ◌*◌, ◌/◌, ◌^◌, length, refl, arith}
+use Rattle.std.proofs.Common.{◌≡◌, ◌*◌, ◌/◌, ◌^◌, length, refl, arith}
 use Rattle.limb.specs.Value.{Below}
 use Rattle.limb.proofs.Value.{value_lt}
 use Rattle.fused.proofs.Walking.{none_fused, fused_by, four_fused, all_fused}

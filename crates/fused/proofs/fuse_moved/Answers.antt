@@ -1,6 +1,6 @@
 -- `fused::fuse_moved` is right since after i turns the lowest i limbs of a and of b moved down give the target's lowest i limbs, with the
 -- carry on top, and the last limb has nothing above it to take bits from. Assumes nothing.
-use Rattle.std.proofs.Common.{◌≡◌, ℕ, ◌+◌, ◌-◌, ◌^◌, length, refl, ◌∙◌, arith, rules}
+use Rattle.std.proofs.Common.{◌≡◌, ◌+◌, ◌-◌, ◌^◌, length, refl, ◌∙◌, arith, rules}
 use Rattle.limb.specs.Value.{Below}
 use Rattle.limb.proofs.Value.{value_lt}
 use Rattle.shifts.proofs.Windows.{limb_bits}

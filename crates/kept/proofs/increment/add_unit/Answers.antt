@@ -1,6 +1,6 @@
 -- `kept::increment::add_unit` is right since after i turns the target, with what is still to be added above its lowest i limbs, is worth
 -- what it was and the unit; where nothing is left to add, the walk is done. Assumes nothing.
-use Rattle.std.proofs.Common.{◌≡◌, ℕ, List, ◌-◌, ◌^◌, ◌≤◌, length, refl, arith, rules}
+use Rattle.std.proofs.Common.{◌≡◌, ℕ, List, ◌^◌, ◌≤◌, length, refl, arith, rules}
 use Rattle.std.proofs.lemmas.List.{set-get_or}
 use lib.ListN.{length-set}
 use Rattle.limb.specs.Carry.{bit}
