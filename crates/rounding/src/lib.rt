@@ -13,6 +13,21 @@ pub enum Mode {
     Downward,
 }
 
+impl Mode {
+    // The mode of a number. Above 3 it is Downward, for a caller that has no refusal for such a number.
+    #[tactic(auto, unfolding(crate::specs::Mode::mode_of))]
+    pub fn numbered(number: u8) -> Mode
+        ensures { result ≡ mode_of number }
+    {
+        match number {
+            0 => Mode::Nearest,
+            1 => Mode::Zeroward,
+            2 => Mode::Upward,
+            _ => Mode::Downward,
+        }
+    }
+}
+
 // A number above 3, which is no mode.
 #[derive(Clone, Copy, Debug, PartialEq, Eq)]
 pub struct UnknownMode(pub u8);
