@@ -5,17 +5,13 @@ ghost use Rattle.place.specs.Placed.{run_rule};
 ghost use Rattle.place.specs.InRange.{Settled};
 
 use crate::{Placed, PlacedLimb};
+use numbers::{LEAST_EXPONENT, LEAST_PRECISION, MOST_EXPONENT, MOST_PRECISION};
 
-// The counted exponents of document 01: 2^40 + 1 - 2^30 to 2^40 + 2^30 - 1.
-const LEAST_EXPONENT: u64 = 1098437885953;
-
-const MOST_EXPONENT: u64 = 1100585369599;
-
-// A precision of document 01: 2 to 4,096.
+// Whether a precision is in range.
 fn precision_fits(precision: u64) -> bool
     ensures { result ≡ leb least_precision precision && leb precision most_precision }
 {
-    (2 <= precision) & (precision <= 4096)
+    (LEAST_PRECISION <= precision) & (precision <= MOST_PRECISION)
 }
 
 // The weight of the guard's last digit lies in sight of the exponents.
@@ -29,13 +25,7 @@ fn weight_fits(unit: u64) -> bool
 fn has_first(carry: bool, target: &[u64]) -> bool
     ensures { result ≡ carry || ltb 0 (get_or target.now (length target.now - 1) 0) }
 {
-    if carry {
-        return true;
-    }
-    if target.len() == 0 {
-        return false;
-    }
-    0 < target[target.len() - 1]
+    carry || target.last().is_some_and(|top| 0 < *top)
 }
 
 // The rule by which a run is refused, or 0.

@@ -13,10 +13,8 @@ ghost use Rattle.place.specs.Rounded.{rounded_placed, rounded_limbs};
 
 use crate::limits::settle_limb;
 use crate::{PlacedLimb, round_limb};
+use limb::FIRST_DIGIT;
 use rounding::Mode;
-
-// 2^63: the first digit of a limb.
-const FIRST_DIGIT: u64 = 9223372036854775808;
 
 // The digits of a run from its first on in one limb and a guard, and the weight of the guard's last digit.
 #[derive(Clone, Copy)]

@@ -9,8 +9,7 @@
 ghost use Rattle.std.specs.Prelude.{◌≡◌, true, false, ◌+◌, ◌-◌, ◌*◌, ◌%◌, ◌^◌, ◌≤◌, ◌<◌};
 ghost use Rattle.twolimbs.specs.Two.{head_in, Brought};
 
-// 2^63: the first digit of a limb.
-const FIRST_DIGIT: u64 = 9223372036854775808;
+use limb::FIRST_DIGIT;
 
 // What stands in two columns, and the carry out of them.
 #[derive(Clone, Copy)]
