@@ -4,6 +4,8 @@
 //       1 b b b b b b b b b b b            a carry: one bit down
 //           0 0 1 b b b b b b b            none: up, as far as there are zeros
 //
+// The arguments and what is asked of them stand in docs/PROMISES.md: a type that held them with those facts would ask more of a caller.
+//
 ghost use Rattle.std.specs.Prelude.{◌≡◌, Bool, true, false, not, ◌||◌, [], ◌∷◌, ℕ, ◌+◌, ◌-◌, ◌*◌, ◌/◌, ◌%◌, ◌^◌, ◌≤◌, ◌<◌, eqb};
 ghost use Rattle.numbers.specs.Limits.{most_exponent};
 ghost use Rattle.rounding.specs.declared.Mode.{Mode};
