@@ -79,7 +79,7 @@ pub fn round_exact(target: &mut [u64], unit: u64, precision: u64) -> Placed
     settle(target, unit + precision + offset + spare, 0)
 }
 
-// Rounds a run of one limb whose first digit is 1 as `round_fit` does, by value.
+// Rounds a run of one limb whose first digit is 1 as `round_fit` does, by value, so that the quick ways keep it in registers.
 pub fn round_limb(
     negative: bool,
     limb: u64,

@@ -74,7 +74,7 @@ pub fn settle(target: &mut [u64], exponent: u64, ternary: i8) -> Placed
     }
 }
 
-// The same for one limb, the range tested first.
+// The same for one limb, by value, so that the quick ways keep it in a register; the range is tested first.
 pub fn settle_limb(limb: u64, exponent: u64, ternary: i8) -> PlacedLimb
     ensures { Settled exponent ternary (limb ∷ []) result.placed (result.limb ∷ []) }
 {
