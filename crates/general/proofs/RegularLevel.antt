@@ -6,7 +6,8 @@ use native.Mathlib.Numerals.{add-one}
 use native.Mathlib.Nat.{div-add-mod'}
 use native.Mathlib.Omega.{arith}
 use lib.ListN.{length, get_or}
-use borrow.Author.Tests.{lt-ltb}
+use borrow.Author.Tests.{lt-ltb, ltb-true, ltb-false}
+use lib.Dec.{ltb}
 use Rattle.bridge.proofs.Told.{pair_same}
 use Rattle.columns.specs.Column.{read_to, column_of, limb_below}
 use mathlib.Core.Bool.{Bool, true, false, beq, true≢false}
@@ -27,12 +28,10 @@ use Rattle.numbers.specs.Limits.{counted}
 use Rattle.rounding.specs.declared.Mode.TheVariants.{Nearest}
 use Rattle.checks.specs.declared.Number.{Number}
 use Rattle.checks.specs.Number.{operand_of}
-use Rattle.general.specs.declared.regular.Differ.{Differ}
-use Rattle.general.specs.declared.regular.Differ.TheVariants.{Never, First, Second}
 use Rattle.descent.specs.Course.{Course}
 use Rattle.checks.specs.Room.{Room}
 use Rattle.descent.specs.Level.{Level}
-use Rattle.general.specs.Differs.{Differs}
+use Rattle.general.specs.Differs.{Above}
 use Rattle.reports.specs.Counts.{used_of}
 use Rattle.reports.specs.Summed.{sum_of, Reported}
 use Rattle.descent.proofs.RegularEnd.{deep_enough}
@@ -54,6 +53,21 @@ module _ (k : ℕ) (x y : List ℕ) (e : read_to k 0 y ≡ read_to k 0 x) (u v :
     where
       go : (a : ℕ) → v < u → a + v < a + u
       go a h = omega arith
+
+  pub next_told : k < max (length x) (length y) → (u ≡ v → ⊥) → (ltb u v ≡ false → Above x y k) × (ltb u v ≡ true → Above y x k)
+  next_told h n = (
+    (λ t. let l = ltb-false u v t in record { within = h; alike = e; larger = next_less (omega arith) }),
+    (λ t. record { within = flip (length x) (length y) h; alike = sym e; larger = more (ltb-true u v t) }),
+  )
+    where
+      flip : (a b : ℕ) → k < max a b → k < max b a
+      flip a b h = omega arith
+
+      more : u < v → read_to (suc k) 0 x < read_to (suc k) 0 y
+      more h = rw (read_next k x, read_next k y, e, ← f, ← g) (go (read_to k 0 x * 2 ^ 64) h)
+        where
+          go : (a : ℕ) → u < v → a + u < a + v
+          go a h = omega arith
 
   pub next_same : u ≤ v → v ≤ u → read_to (suc k) 0 y ≡ read_to (suc k) 0 x
   next_same h l = read_next k y ∙ ap (λ (n : ℕ). n * 2 ^ 64 + column_of k 0 y) e ∙ ap (λ (n : ℕ). read_to k 0 x * 2 ^ 64 + n) (sym g ∙ go h l ∙ f) ∙ sym (read_next k x)
@@ -95,11 +109,8 @@ module _ (x y : List ℕ) (same : length x ≡ length y) (a : Below (2 ^ 64) x) 
   next_y : v ≡ column_of passed 0 y
   next_y = g ∙ limb_column y b passed i some (omega arith)
 
-  pub alike_first : v < u → Differs x y (First passed)
-  alike_first l = (omega arith, passed_alike, next_less passed x y passed_alike u v next_x next_y l)
-
-  pub alike_second : u < v → Differs x y (Second passed)
-  alike_second l = (omega arith, sym passed_alike, next_less passed y x (sym passed_alike) v u next_y next_x l)
+  pub alike_told : (u ≡ v → ⊥) → (ltb u v ≡ false → Above x y passed) × (ltb u v ≡ true → Above y x passed)
+  alike_told n = next_told passed x y passed_alike u v next_x next_y (omega arith) n
 
   pub alike_next : u ≡ v → read_to (length x - (i - 1)) 0 y ≡ read_to (length x - (i - 1)) 0 x
   alike_next d = subst (λ (n : ℕ). read_to n 0 y ≡ read_to n 0 x) further (next_same passed x y passed_alike u v next_x next_y (omega arith) (omega arith))
@@ -107,11 +118,11 @@ module _ (x y : List ℕ) (same : length x ≡ length y) (a : Below (2 ^ 64) x) 
       further : suc passed ≡ length x - (i - 1)
       further = omega arith
 
-pub alike_end : (x y : List ℕ) (i : ℕ) → i ≤ 0 → read_to (length x - i) 0 y ≡ read_to (length x - i) 0 x → read_to (length x) 0 y ≡ read_to (length x) 0 x
-alike_end x y i h e = subst (λ (n : ℕ). read_to n 0 y ≡ read_to n 0 x) (all (length x)) e
+pub alike_end : (x y : List ℕ) (i : ℕ) → length x ≡ length y → i ≤ 0 → read_to (length x - i) 0 y ≡ read_to (length x - i) 0 x → read_to (max (length x) (length y)) 0 y ≡ read_to (max (length x) (length y)) 0 x
+alike_end x y i same h e = subst (λ (n : ℕ). read_to n 0 y ≡ read_to n 0 x) (all (length x) (length y) same) e
   where
-    all : (n : ℕ) → n - i ≡ n
-    all n = omega arith
+    all : (n m : ℕ) → n ≡ m → n - i ≡ max n m
+    all n m e = omega arith
 
 -- ---- where a walk begins
 
@@ -175,41 +186,42 @@ module _ (mode : Mode) (p n : ℕ) (room : Room p n) (x y : Operand) (l : Level 
 
 -- ---- as the code finds it
 
-module _ (x : Number) (xl : List ℕ) (y : Number) (yl : List ℕ) (p n : ℕ) (room : Room p n) where
-  module _ (l : Level (operand_of x xl) (operand_of y yl)) (r : Differ) (t : Differs xl yl r) (k : ℕ) where
-    pub never_few : r ≡ Never k → k ≤ 2 ^ 20
-    unfolding operand_of
-    never_few e = let d : Differs xl yl (Never k) = rw e at t in let a = few Nearest p n room (operand_of x xl) (operand_of y yl) l k d.0 d.1 in omega arith
+module _ (x : Number) (xl : List ℕ) (y : Number) (yl : List ℕ) where
+  module _ (p n : ℕ) (room : Room p n) (l : Level (operand_of x xl) (operand_of y yl)) (k : ℕ) (ke : k ≡ max (length xl) (length yl)) (e : read_to (max (length xl) (length yl)) 0 yl ≡ read_to (max (length xl) (length yl)) 0 xl) where
+    alike_at : read_to k 0 yl ≡ read_to k 0 xl
+    alike_at = rw ke e
 
-    pub never_reported : (mode : Mode) {exit : List ℕ} {s : Sum} {z : Bool} {u v : ℕ} → r ≡ Never k → exit ≡ replicate n 0 → z ≡ zero_sign mode x.negative y.negative → u ≡ used_of k 0 (length xl) → v ≡ used_of k 0 (length yl) → s ≡ sum_of (zero_of z) p k u v
+    pub alike_few : k ≤ 2 ^ 20
+    unfolding operand_of
+    alike_few = let a = few Nearest p n room (operand_of x xl) (operand_of y yl) l k ke alike_at in omega arith
+
+    pub alike_reported : (mode : Mode) {exit : List ℕ} {s : Sum} {z : Bool} {u v : ℕ} → exit ≡ replicate n 0 → z ≡ zero_sign mode x.negative y.negative → u ≡ used_of k 0 (length xl) → v ≡ used_of k 0 (length yl) → s ≡ sum_of (zero_of z) p k u v
         → Reported plus mode p (operand_of x xl) (operand_of y yl) exit s
     unfolding operand_of
-    never_reported mode e f zs us vs h = let d : Differs xl yl (Never k) = rw e at t in cancelled_reported mode p n room (operand_of x xl) (operand_of y yl) l k d.0 d.1 f zs us vs h
+    alike_reported mode f zs us vs h = cancelled_reported mode p n room (operand_of x xl) (operand_of y yl) l k ke alike_at f zs us vs h
 
-    pub first_ready : r ≡ First k → ((operand_of y yl).is_zero ≡ false) × Course (operand_of x xl) (operand_of y yl) k × Room p n
+  module _ (l : Level (operand_of x xl) (operand_of y yl)) (k : ℕ) where
+    pub first_ready : Above xl yl k → Course (operand_of x xl) (operand_of y yl) k
     unfolding operand_of
-    first_ready e = let d : Differs xl yl (First k) = rw e at t in (l.second_regular, course_level (operand_of x xl) (operand_of y yl) k l d.0 d.1 d.2, room)
+    first_ready d = course_level (operand_of x xl) (operand_of y yl) k l d.within d.alike d.larger
 
-    pub second_ready : r ≡ Second k → ((operand_of x xl).is_zero ≡ false) × Course (operand_of y yl) (operand_of x xl) k × Room p n
+    pub second_ready : Above yl xl k → Course (operand_of y yl) (operand_of x xl) k
     unfolding operand_of
-    second_ready e = let d : Differs xl yl (Second k) = rw e at t in (l.first_regular, course_level (operand_of y yl) (operand_of x xl) k (level_turned (operand_of x xl) (operand_of y yl) l) (flip (length xl) (length yl) d.0) d.1 d.2, room)
-      where
-        flip : (a b : ℕ) → k < max a b → k < max b a
-        flip a b h = omega arith
+    second_ready d = course_level (operand_of y yl) (operand_of x xl) k (level_turned (operand_of x xl) (operand_of y yl) l) d.within d.alike d.larger
 
   module _ (g : WellFormed (operand_of x xl)) (r : (operand_of x xl).is_zero ≡ false) (h : WellFormed (operand_of y yl)) (s : (operand_of y yl).is_zero ≡ false) (a b : ℕ) (ae : a ≡ counted x.exponent) (be : b ≡ counted y.exponent) where
-    pub both_first : b < a → ((operand_of y yl).is_zero ≡ false) × Course (operand_of x xl) (operand_of y yl) 0 × Room p n
+    pub both_first : b < a → Course (operand_of x xl) (operand_of y yl) 0
     unfolding operand_of
-    both_first f = (s, course_larger (operand_of x xl) (operand_of y yl) g h r (omega arith), room)
+    both_first f = course_larger (operand_of x xl) (operand_of y yl) g h r (omega arith)
 
-    pub both_second : a < b → ((operand_of x xl).is_zero ≡ false) × Course (operand_of y yl) (operand_of x xl) 0 × Room p n
+    pub both_second : a < b → Course (operand_of y yl) (operand_of x xl) 0
     unfolding operand_of
-    both_second f = (r, course_larger (operand_of y yl) (operand_of x xl) h g s (omega arith), room)
+    both_second f = course_larger (operand_of y yl) (operand_of x xl) h g s (omega arith)
 
-    pub both_like : a ≤ b → b ≤ a → beq x.negative y.negative ≡ true → ((operand_of y yl).is_zero ≡ false) × Course (operand_of x xl) (operand_of y yl) 0 × Room p n
+    pub both_like : a ≤ b → b ≤ a → beq x.negative y.negative ≡ true → Course (operand_of x xl) (operand_of y yl) 0
     unfolding operand_of
-    both_like i j e = (s, course_like (operand_of x xl) (operand_of y yl) g h r s (omega arith) e, room)
+    both_like i j e = course_like (operand_of x xl) (operand_of y yl) g h r s (omega arith) e
 
-    pub both_unlike : a ≤ b → b ≤ a → beq x.negative y.negative ≡ false → Level (operand_of x xl) (operand_of y yl) × Room p n
+    pub both_unlike : a ≤ b → b ≤ a → beq x.negative y.negative ≡ false → Level (operand_of x xl) (operand_of y yl)
     unfolding operand_of
-    both_unlike i j e = (record { first = g; second = h; first_regular = r; second_regular = s; even = omega arith; unlike = e }, room)
+    both_unlike i j e = record { first = g; second = h; first_regular = r; second_regular = s; even = omega arith; unlike = e }

@@ -4,9 +4,8 @@ use mathlib.Core.Logic.{inl, inr}
 use mathlib.Core.Bool.{Bool, true, false, not, cond, ◌&&◌, ◌||◌, beq, true≢false}
 use mathlib.Core.List.{List, [], ◌∷◌}
 use Prim.Native.Nat.{ℕ, ◌+◌, ◌-◌, ◌*◌, ◌/◌, ◌≤◌, ◌<◌, min}
-use native.Mathlib.Nat.{le_of_lt}
 use native.Mathlib.Omega.{arith}
-use borrow.Author.Tests.{lt-ltb, le-ltb, ltb-true, ltb-false, le-leb, lt-leb, ne_eqb}
+use borrow.Author.Tests.{lt-ltb, le-ltb, le-leb, lt-leb, ne_eqb}
 use lib.Dec.{ltb, leb, eqb}
 use mir.Val.{bool_byte}
 use Rattle.depth.proofs.Exchange.{top_exchange, deciding_exchange}
@@ -25,8 +24,8 @@ use Rattle.decide.proofs.Decision.{depth_decided}
 use Rattle.checks.specs.declared.Number.{Number}
 use Rattle.checks.specs.Number.{operand_of}
 use Rattle.settle.specs.declared.rows.Pair.{Pair}
-use Rattle.bridge.specs.Verdict.{pair_of, Ordered}
-use Rattle.bridge.proofs.Told.{top_is}
+use Rattle.bridge.specs.Verdict.{Ordered}
+use Rattle.bridge.proofs.Told.{top_is, pair_gap}
 use Rattle.descent.specs.Finishing.{Left}
 use Rattle.reports.specs.Signed.{Signed}
 use Rattle.descent.proofs.Handed.{ordered_pair, beq_turned, limbs_some}
@@ -36,15 +35,14 @@ use Rattle.narrow.specs.Looked.{Looked}
 use Rattle.narrow.proofs.Tops.{top_led}
 
 -- the test of which is larger is by exponents first
-pub order_told_lem : (a b u v : ℕ) → ((ltb a b || (eqb a b && ltb u v)) ≡ true → a ≤ b) × ((ltb a b || (eqb a b && ltb u v)) ≡ false → b ≤ a)
-order_told_lem a b u v = elim (le_or_lt b a) [ inl h ↦ ((λ e. equal h e), (λ e. h)) | inr h ↦ ((λ e. omega arith), (λ e. absurd (true≢false (sym (ap (λ (t : Bool). t || (eqb a b && ltb u v)) (lt-ltb a b h)) ∙ e)))) ]
+by_exponents : (a b u v : ℕ) → ((ltb a b || (eqb a b && ltb u v)) ≡ true → a ≤ b) × ((ltb a b || (eqb a b && ltb u v)) ≡ false → b ≤ a)
+by_exponents a b u v = elim (le_or_lt b a) [ inl h ↦ ((λ e. equal h e), (λ e. h)) | inr h ↦ ((λ e. omega arith), (λ e. absurd (true≢false (sym (ap (λ (t : Bool). t || (eqb a b && ltb u v)) (lt-ltb a b h)) ∙ e)))) ]
   where
     equal : b ≤ a → (ltb a b || (eqb a b && ltb u v)) ≡ true → a ≤ b
     equal h e = elim (le_or_lt a b) [ inl k ↦ k | inr k ↦ absurd (true≢false (sym e ∙ rw (le-ltb a b h, ne_eqb a b (λ i. omega arith)) refl)) ]
 
--- so is that of exponents alone
-pub exponents_told : (a b : ℕ) → (ltb a b ≡ true → a ≤ b) × (ltb a b ≡ false → b ≤ a)
-exponents_told a b = ((λ e. le_of_lt (ltb-true a b e)), (λ e. ltb-false a b e))
+pub order_told_lem : {s : Bool} {a b c d : ℕ} (u v : ℕ) → s ≡ (ltb a b || (eqb a b && ltb u v)) → a ≡ c → b ≡ d → (s ≡ true → c ≤ d) × (s ≡ false → d ≤ c)
+order_told_lem {s} {a} {b} {c} {d} u v e f g = rw (e, ← f, ← g) (by_exponents a b u v)
 
 -- ---- the sign of the larger of two operands whose signs are known to be like, or unlike
 
@@ -52,9 +50,9 @@ pub like_told : (a b : Bool) → a ≡ b → true ≡ beq a b
 like_told true b e = rw (← e) refl
 like_told false b e = rw (← e) refl
 
-pub like_larger : (swapped a b : Bool) → a ≡ b → a ≡ cond swapped b a
-like_larger true a b e = e
-like_larger false a b e = refl
+pub like_larger : (swapped : Bool) (x y : Operand) → x.negative ≡ y.negative → x.negative ≡ (cond swapped y x).negative
+like_larger true x y e = e
+like_larger false x y e = refl
 
 pub unlike_told : (a b : Bool) → (a ≡ b → ⊥) → false ≡ beq a b
 unlike_told true true h = absurd (h refl)
@@ -62,13 +60,20 @@ unlike_told true false h = refl
 unlike_told false true h = refl
 unlike_told false false h = absurd (h refl)
 
-pub unlike_larger : (swapped a b : Bool) → (a ≡ b → ⊥) → not (beq a swapped) ≡ cond swapped b a
-unlike_larger true true true h = absurd (h refl)
-unlike_larger true true false h = refl
-unlike_larger true false true h = refl
-unlike_larger true false false h = absurd (h refl)
-unlike_larger false true b h = refl
-unlike_larger false false b h = refl
+pub unlike_larger : (swapped : Bool) (x y : Operand) → (x.negative ≡ y.negative → ⊥) → not (beq x.negative swapped) ≡ (cond swapped y x).negative
+unlike_larger swapped x y h = go swapped x.negative y.negative h ∙ picked swapped
+  where
+    go : (w a b : Bool) → (a ≡ b → ⊥) → not (beq a w) ≡ cond w b a
+    go true true true h = absurd (h refl)
+    go true true false h = refl
+    go true false true h = refl
+    go true false false h = absurd (h refl)
+    go false true b h = refl
+    go false false b h = refl
+
+    picked : (w : Bool) → cond w y.negative x.negative ≡ (cond w y x).negative
+    picked true = refl
+    picked false = refl
 
 -- ---- the limbs used of two operands in order, at a depth of one column
 
@@ -101,33 +106,28 @@ module _ (o : Mode) (p : ℕ) (positive : 0 < p) (x y : Operand) (d : Ordered x 
       apart : (n : ℕ) → 0 ≡ n - n
       apart n = omega arith
 
-module _ (mode : Mode) (p : ℕ) (least : least_precision ≤ p) where
-  abbrev o : Mode
-  o = mode
+-- a flag as a number
+flag_told : (b : Bool) → bool_byte b ≡ cond b 1 0
+flag_told true = refl
+flag_told false = refl
 
-  positive : 0 < p
-  positive = omega (arith, two_digits)
+-- ---- what is told of two operands in order
 
-  -- what is seen of two operands in order
-  abbrev pub Says : Bool → Pair → ℕ → ℕ → Seen → Type 0
-  Says negative pair u v s = s.open ≡ false → (x y : Operand) → Held x y pair u v → negative ≡ x.negative → Told o p x y s.negative s.limb s.placed
-
-  module _ (x y : Operand) (d : Ordered x y) (e : y.is_zero ≡ false) (u v : ℕ) (f : u ≡ top_limb x.limbs) (g : v ≡ top_limb y.limbs) (s : Seen) (says : Says x.negative (pair_of x y) u v s) (closed : s.open ≡ false) where
-    told : Told o p x y s.negative s.limb s.placed
-    told = says closed x y (record { ordered = d; regular = e; pair_is = refl; first_top = f; second_top = g }) refl
-
-    pub ordered_looked : (i j : ℕ) → i ≡ 1 → j ≡ cond (ltb (x.exponent - y.exponent) 64) 1 0 → Looked o p x y (record { seen = s; negative = s.negative; first = i; second = j })
-    ordered_looked i j a b = record {
-      depth = depth_one o p positive x y d told.fixed;
-      left = told.left;
-      signed = told.signed;
-      first = a ∙ first_used o p positive x y d;
-      second = b ∙ used_at y (top_exponent x y) (x.exponent - y.exponent) d.second e (rw (top_one o p positive x y d) refl);
-    }
+module _ (o : Mode) (p : ℕ) (positive : 0 < p) (s : Seen) where
+  ordered_looked : (x y : Operand) (pair : Pair) (u v : ℕ) → Held x y pair u v → Told o p x y s.negative s.limb s.placed → Looked o p x y (record { seen = s; first = 1; second = bool_byte (ltb pair.gap 64) })
+  ordered_looked x y pair u v h t =
+      let gap : pair.gap ≡ x.exponent - y.exponent = ap (λ (q : Pair). q.gap) h.pair_is ∙ pair_gap x y h.regular in
+      record {
+        depth = depth_one o p positive x y h.ordered t.fixed;
+        left = t.left;
+        signed = t.signed;
+        first = first_used o p positive x y h.ordered;
+        second = flag_told (ltb pair.gap 64) ∙ used_at y (top_exponent x y) pair.gap h.ordered.second h.regular (rw (top_one o p positive x y h.ordered) gap);
+      }
 
   -- the other way round
-  pub looked_turned : (x y : Operand) → x.is_zero ≡ false → y.is_zero ≡ false → (s : Seen) (n : Bool) (i j : ℕ) → Looked o p y x (record { seen = s; negative = n; first = i; second = j }) → Looked o p x y (record { seen = s; negative = n; first = j; second = i })
-  looked_turned x y r e s n i j l =
+  looked_turned : (x y : Operand) → x.is_zero ≡ false → y.is_zero ≡ false → (i j : ℕ) → Looked o p y x (record { seen = s; first = i; second = j }) → Looked o p x y (record { seen = s; first = j; second = i })
+  looked_turned x y r e i j l =
       let some : (x.is_zero && y.is_zero) ≡ false = rw r refl in
       let others : (y.is_zero && x.is_zero) ≡ false = rw e refl in
       let same : add o p y x ≡ add o p x y = add_commutes o p y x positive in
@@ -135,41 +135,31 @@ module _ (mode : Mode) (p : ℕ) (least : least_precision ≤ p) where
       record {
         depth = record { zeros = λ h. absurd (true≢false (sym h ∙ some)); deciding = λ h. deciding_exchange o p positive x y some 1 (l.depth.deciding others) };
         left = subst (λ (a : Answer). Left p a (s.limb ∷ []) s.placed) same l.left;
-        signed = subst (λ (a : Answer). Signed n a) same l.signed;
+        signed = subst (λ (a : Answer). Signed s.negative a) same l.signed;
         first = l.second ∙ ap (λ (t : ℕ). limbs_used t 1 x) top;
         second = l.first ∙ ap (λ (t : ℕ). limbs_used t 1 y) top;
       }
 
-  -- two numbers in order, as the code holds them
-  pub numbers_looked : (x : Number) (xl : List ℕ) (y : Number) (yl : List ℕ) → WellFormed (operand_of x xl) → (operand_of x xl).is_zero ≡ false → WellFormed (operand_of y yl) → (operand_of y yl).is_zero ≡ false
-      → (c d u v : ℕ) → c ≡ counted x.exponent → d ≡ counted y.exponent → d ≤ c → u ≡ top_limb xl → v ≡ top_limb yl
-      → (s : Seen) → Says x.negative (record { same = beq x.negative y.negative; first = x.precision; second = y.precision; gap = c - d; top = c }) u v s → s.open ≡ false
-      → Looked o p (operand_of x xl) (operand_of y yl) (record { seen = s; negative = s.negative; first = 1; second = cond (ltb (c - d) 64) 1 0 })
-  unfolding operand_of
-  numbers_looked x xl y yl gx rx gy ry c d u v ce de h ue ve s says closed =
-      let pe = ordered_pair x xl y yl c d ry ce de in
-      ordered_looked (operand_of x xl) (operand_of y yl) (record { first = gx; second = gy; regular = rx; order = λ f. rw (← ce, ← de) h }) ry u v ue ve s (subst (λ (q : Pair). Says x.negative q u v s) pe says) closed
-      1 (cond (ltb (c - d) 64) 1 0) refl (rw (ce, de) refl)
-
--- a flag as a number
-flag_told : (b : Bool) → bool_byte b ≡ cond b 1 0
-flag_told true = refl
-flag_told false = refl
+  -- it is told of them in their own order
+  pub looked : (swapped : Bool) (x y : Operand) (pair : Pair) (u v : ℕ) {i j : ℕ} → i ≡ cond swapped (bool_byte (ltb pair.gap 64)) 1 → j ≡ cond swapped 1 (bool_byte (ltb pair.gap 64))
+      → Held (cond swapped y x) (cond swapped x y) pair u v → Told o p (cond swapped y x) (cond swapped x y) s.negative s.limb s.placed → Looked o p x y (record { seen = s; first = i; second = j })
+  looked true x y pair u v e f h t = rw (e, f) (looked_turned x y h.regular h.ordered.regular 1 (bool_byte (ltb pair.gap 64)) (ordered_looked y x pair u v h t))
+  looked false x y pair u v e f h t = rw (e, f) (ordered_looked x y pair u v h t)
 
 -- ---- as the code finds it
 
-module _ (mode : Mode) (p : ℕ) (least : least_precision ≤ p) (most : p ≤ 62) (x : Number) (xl : List ℕ) (y : Number) (yl : List ℕ)
+module _ (p : ℕ) (least : least_precision ≤ p) (most : p ≤ 62) (x : Number) (xl : List ℕ) (y : Number) (yl : List ℕ)
     (gx : WellFormed (operand_of x xl)) (rx : (operand_of x xl).is_zero ≡ false) (gy : WellFormed (operand_of y yl)) (ry : (operand_of y yl).is_zero ≡ false)
-    (a b u v : ℕ) (ae : a ≡ counted x.exponent) (be : b ≡ counted y.exponent) (ue : u ≡ top_limb xl) (ve : v ≡ top_limb yl)
-    (swapped : Bool) (order : (swapped ≡ true → a ≤ b) × (swapped ≡ false → b ≤ a)) (t l : ℕ) (te : t ≡ cond swapped b a) (le : l ≡ cond swapped a b) where
+    (swapped : Bool) (later : swapped ≡ true → counted x.exponent ≤ counted y.exponent) (earlier : swapped ≡ false → counted y.exponent ≤ counted x.exponent)
+    (a b t l : ℕ) (ae : a ≡ counted x.exponent) (be : b ≡ counted y.exponent) (te : t ≡ cond swapped b a) (le : l ≡ cond swapped a b) where
   pub gap_some : l ≤ t
   gap_some = go swapped refl
     where
       go : (w : Bool) → swapped ≡ w → l ≤ t
-      go true f = rw (te, le, f) (order.0 f)
-      go false f = rw (te, le, f) (order.1 f)
+      go true f = rw (te, le, f, ae, be) (later f)
+      go false f = rw (te, le, f, ae, be) (earlier f)
 
-  module _ (same : Bool) (m n high deep : ℕ) (same_is : same ≡ beq x.negative y.negative) (me : m ≡ cond swapped y.precision x.precision) (ne : n ≡ cond swapped x.precision y.precision) (high_is : high ≡ cond swapped v u) (deep_is : deep ≡ cond swapped u v) where
+  module _ (u v : ℕ) (ue : u ≡ top_limb xl) (ve : v ≡ top_limb yl) (same : Bool) (m n high deep : ℕ) (same_is : same ≡ beq x.negative y.negative) (me : m ≡ cond swapped y.precision x.precision) (ne : n ≡ cond swapped x.precision y.precision) (high_is : high ≡ cond swapped v u) (deep_is : deep ≡ cond swapped u v) where
     abbrev pub pair : Pair
     pair = record { same = same; first = m; second = n; gap = t - l; top = t }
 
@@ -205,19 +195,22 @@ module _ (mode : Mode) (p : ℕ) (least : least_precision ≤ p) (most : p ≤ 6
           high = rw (te, f, ae) (gx.regular rx).most;
         }
 
-    pub looked : (larger : Bool) (s : Seen) (i j : ℕ) → larger ≡ cond swapped y.negative x.negative → Says mode p least larger pair high deep s → i ≡ cond swapped (bool_byte (ltb (t - l) 64)) 1 → j ≡ cond swapped 1 (bool_byte (ltb (t - l) 64))
-        → s.open ≡ false → Looked mode p (operand_of x xl) (operand_of y yl) (record { seen = s; negative = s.negative; first = i; second = j })
-    looked larger s i j he says ie je closed = go swapped refl
+    pub held : Held (cond swapped (operand_of y yl) (operand_of x xl)) (cond swapped (operand_of x xl) (operand_of y yl)) pair high deep
+    unfolding operand_of
+    held = go swapped refl
       where
-        go : (w : Bool) → swapped ≡ w → Looked mode p (operand_of x xl) (operand_of y yl) (record { seen = s; negative = s.negative; first = i; second = j })
-        go true f =
-            rw (ie, je, f, flag_told (ltb (t - l) 64), te, le, f)
-            (looked_turned mode p least (operand_of x xl) (operand_of y yl) rx ry s s.negative 1 (cond (ltb (b - a) 64) 1 0)
-            (numbers_looked mode p least y yl x xl gy ry gx rx b a v u be ae (order.0 f) ve ue s (rw (he, same_is, me, ne, te, le, high_is, deep_is, f, beq_turned x.negative y.negative) at says) closed))
-        go false f =
-            rw (ie, je, f, flag_told (ltb (t - l) 64), te, le, f)
-            (numbers_looked mode p least x xl y yl gx rx gy ry a b u v ae be (order.1 f) ue ve s (rw (he, same_is, me, ne, te, le, high_is, deep_is, f) at says) closed)
-
--- the sign may be told by another name
-pub looked_named : (o : Mode) (p : ℕ) (x y : Operand) (s : Seen) (m n : Bool) (i j : ℕ) → m ≡ n → Looked o p x y (record { seen = s; negative = m; first = i; second = j }) → Looked o p x y (record { seen = s; negative = n; first = i; second = j })
-looked_named o p x y s m n i j e l = subst (λ (b : Bool). Looked o p x y (record { seen = s; negative = b; first = i; second = j })) e l
+        go : (w : Bool) → swapped ≡ w → Held (cond swapped (operand_of y yl) (operand_of x xl)) (cond swapped (operand_of x xl) (operand_of y yl)) pair high deep
+        go true f = rw f (record {
+          ordered = record { first = gy; second = gx; regular = ry; order = λ e. later f };
+          regular = rx;
+          pair_is = rw (same_is, me, ne, te, le, f, beq_turned x.negative y.negative) (ordered_pair y yl x xl b a rx be ae);
+          first_top = rw (high_is, f) ve;
+          second_top = rw (deep_is, f) ue;
+        })
+        go false f = rw f (record {
+          ordered = record { first = gx; second = gy; regular = rx; order = λ e. earlier f };
+          regular = ry;
+          pair_is = rw (same_is, me, ne, te, le, f) (ordered_pair x xl y yl a b ry ae be);
+          first_top = rw (high_is, f) ue;
+          second_top = rw (deep_is, f) ve;
+        })

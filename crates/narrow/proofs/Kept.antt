@@ -112,7 +112,7 @@ module _ (p : ℕ) (pair : Pair) (u v : ℕ) (f : Facing p pair u) (k : AllKept 
 
   module _ (ahead : v / 2 ^ pair.gap < u) where
     abbrev column : Column
-    column = record { fixed = true; carry = false; limb = D; guard = 0; more = false }
+    column = record { carry = false; limb = D; guard = 0; more = false }
 
     found : Found p pair u v column
     found =

@@ -130,13 +130,13 @@ module _ (p : ℕ) (least : least_precision ≤ p) (most : p ≤ 62) (x : Number
   unfolding operand_of
   lone = record { least = least; most = most; led = rw ue (top_led (operand_of x xl) g r); low = rw te (g.regular r).least; high = rw te (g.regular r).most }
 
-  pub alone_looked : (mode : Mode) (s : Seen) → (s.open ≡ false → (v z : Operand) → Beside v z x.precision top u → x.negative ≡ v.negative → Told mode p v z s.negative s.limb s.placed)
-      → s.open ≡ false → (z : Operand) → WellFormed z → z.is_zero ≡ true → Looked mode p (operand_of x xl) z (record { seen = s; negative = s.negative; first = 1; second = 0 })
+  pub alone_looked : (mode : Mode) (s : Seen) → ((v z : Operand) → Beside v z x.precision top u → x.negative ≡ v.negative → Told mode p v z s.negative s.limb s.placed)
+      → (z : Operand) → WellFormed z → z.is_zero ≡ true → Looked mode p (operand_of x xl) z (record { seen = s; first = 1; second = 0 })
   unfolding operand_of
-  alone_looked mode s says closed z h zero =
+  alone_looked mode s says z h zero =
       let P : 0 < p = omega (arith, two_digits, least) in
       let d : Ordered (operand_of x xl) z = record { first = g; second = h; regular = r; order = λ e. absurd (true≢false (sym zero ∙ e)) } in
-      let t = says closed (operand_of x xl) z (record { formed = g; regular = r; other = h; zero = zero; precision_is = refl; exponent_is = te; limb_is = ue }) refl in
+      let t = says (operand_of x xl) z (record { formed = g; regular = r; other = h; zero = zero; precision_is = refl; exponent_is = te; limb_is = ue }) refl in
       record {
         depth = depth_one mode p P (operand_of x xl) z d t.fixed;
         left = t.left;

@@ -79,9 +79,9 @@ All p pair D N =
     (o : Mode) (x y : Operand) → Ordered x y → y.is_zero ≡ false → pair ≡ pair_of x y → Leads x y 1 → read_sum x y 1 ≡ D
     → (decide_at o p x y 1 ≡ true) × (add o p x y ≡ rounded (way o x.negative) p (x.exponent - 128 - 1) x.negative N)
 
-plain : (p : ℕ) (pair : Pair) (D : ℕ) (fixed carry : Bool) (limb : ℕ) (more : Bool) → limb + 2 ^ 64 * bit carry ≡ D → 0 < D → All p pair D (2 * (D * 2 ^ 64) + bit more)
-    → Settles p pair D (record { fixed = fixed; carry = carry; limb = limb; guard = 0; more = more })
-plain p pair D fixed carry limb more e pos h = record { led = led carry e; answers = rw (run_plain carry limb more D e) h }
+plain : (p : ℕ) (pair : Pair) (D : ℕ) (carry : Bool) (limb : ℕ) (more : Bool) → limb + 2 ^ 64 * bit carry ≡ D → 0 < D → All p pair D (2 * (D * 2 ^ 64) + bit more)
+    → Settles p pair D (record { carry = carry; limb = limb; guard = 0; more = more })
+plain p pair D carry limb more e pos h = record { led = led carry e; answers = rw (run_plain carry limb more D e) h }
   where
     led : (c : Bool) → limb + 2 ^ 64 * bit c ≡ D → c ≡ false → 0 < limb
     led true e f = absurd (true≢false f)
@@ -147,9 +147,9 @@ module _ (p : ℕ) (pair : Pair) (u : ℕ) (f : Facing p pair u) where
         few true = unfold bit in omega (arith, P)
         few false = unfold bit in omega (arith, P)
 
-    pub sum_settles : (fixed : Bool) → (is_whole pair ≡ false → is_hole pair ≡ false → (1 ≤ sum % 2 ^ (64 + bool_byte carry - p - 1)) × (sum % 2 ^ (64 + bool_byte carry - p - 1) + 1 < 2 ^ (64 + bool_byte carry - p - 1)))
-        → Settles p pair (u + low) (record { fixed = fixed; carry = carry; limb = sum; guard = 0; more = leb 64 pair.gap })
-    sum_settles fixed i = plain p pair (u + low) fixed carry sum (leb 64 pair.gap) e sum_pos (all (sum_case pair f.second_some same))
+    pub sum_settles : (is_whole pair ≡ false → is_hole pair ≡ false → (1 ≤ sum % 2 ^ (64 + bool_byte carry - p - 1)) × (sum % 2 ^ (64 + bool_byte carry - p - 1) + 1 < 2 ^ (64 + bool_byte carry - p - 1)))
+        → Settles p pair (u + low) (record { carry = carry; limb = sum; guard = 0; more = leb 64 pair.gap })
+    sum_settles i = plain p pair (u + low) carry sum (leb 64 pair.gap) e sum_pos (all (sum_case pair f.second_some same))
       where
         all : SumCase pair → All p pair (u + low) (2 * ((u + low) * 2 ^ 64) + bit (leb 64 pair.gap))
         all (read row g) o x y d reg is lead D = rw (g, ← D) (exact_says p P o x y d lead (here pair x y is row))
@@ -160,15 +160,15 @@ module _ (p : ℕ) (pair : Pair) (u : ℕ) (f : Facing p pair u) where
 
   module _ (same : pair.same ≡ false) where
     pub difference_settles : is_hole pair ≡ false → (D : ℕ) (whole inside more : Bool) → whole ≡ is_whole pair → more ≡ has_more pair → 0 < D → (inside ≡ true → Inside p D) → (whole || inside) ≡ true
-        → Settles p pair D (record { fixed = whole || inside; carry = false; limb = D; guard = 0; more = more })
-    difference_settles none D whole inside more ew em pos i t = plain p pair D (whole || inside) false D more (unfold bit in omega arith) pos (rw em (all (difference_case pair f.second_some same none)))
+        → Settles p pair D (record { carry = false; limb = D; guard = 0; more = more })
+    difference_settles none D whole inside more ew em pos i t = plain p pair D false D more (unfold bit in omega arith) pos (rw em (all (difference_case pair f.second_some same none)))
       where
         all : DifferenceCase pair → All p pair D (2 * (D * 2 ^ 64) + bit (has_more pair))
         all (read row g) o x y d reg is lead e = rw (g, ← e) (exact_says p P o x y d lead (here pair x y is row))
         all (short row g a) o x y d reg is lead e = rw (g, ← e) (plus_says p P o x y d lead (rw e (i (second_true whole inside t (ew ∙ a)))) false false true (here pair x y is row))
         all (less row a) o x y d reg is lead e = rw (← e) (minus_says p P o x y d lead (rw e (i (second_true whole inside t (ew ∙ a)))) _ (here pair x y is row))
 
-    pub hole_found : is_hole pair ≡ true → (v : ℕ) → v < 2 ^ 64 → (r : Column) → r ≡ record { fixed = true; carry = false; limb = u - 1; guard = 18446744073709551615; more = true } → Found p pair u v r
+    pub hole_found : is_hole pair ≡ true → (v : ℕ) → v < 2 ^ 64 → (r : Column) → r ≡ record { carry = false; limb = u - 1; guard = 18446744073709551615; more = true } → Found p pair u v r
     hole_found hole v lt r is = record { ahead = λ e. rw none (omega (arith, f.led)); settles = subst (λ (n : ℕ). Settles p pair n r) (sym (read_difference pair u v same ∙ ap (λ (n : ℕ). u - n) none ∙ flat u)) (rw is settles) }
       where
         none : v / 2 ^ pair.gap ≡ 0
@@ -180,7 +180,7 @@ module _ (p : ℕ) (pair : Pair) (u : ℕ) (f : Facing p pair u) where
         all : All p pair u (2 * (u * 2 ^ 64) - 1)
         all o x y d reg is lead e = rw (← e) (hole_difference_says p P o x y d lead f.most (here pair x y is (hole_row pair f.second_some hole)) (ap (λ (s : Pair). s.same) (sym is) ∙ same))
 
-        settles : Settles p pair u (record { fixed = true; carry = false; limb = u - 1; guard = 18446744073709551615; more = true })
+        settles : Settles p pair u (record { carry = false; limb = u - 1; guard = 18446744073709551615; more = true })
         settles = record { led = λ e. omega (arith, f.led); answers = rw (run_less u (omega (arith, f.led))) all }
 
     pub difference_found : (v low : ℕ) → low ≡ v / 2 ^ pair.gap → low < u → (r : Column) → Settles p pair (u - low) r → Found p pair u v r

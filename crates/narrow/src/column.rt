@@ -1,15 +1,14 @@
 // The first column of two operands as a run to be rounded, where it fixes the answer.
-ghost use Rattle.std.specs.Prelude.{◌≡◌, true, false, ◌+◌, ◌-◌, ◌/◌, ◌%◌, ◌^◌, ◌≤◌, ◌<◌};
+ghost use Rattle.std.specs.Prelude.{◌≡◌, true, false, ◌+◌, ◌-◌, ◌/◌, ◌%◌, ◌^◌, ◌≤◌, ◌<◌, IfSome};
 ghost use Rattle.descent.specs.Course.{Inside};
-ghost use Rattle.narrow.specs.Sighting.{Facing};
 ghost use Rattle.narrow.specs.Column.{is_whole, is_hole, has_more, Settles, Found};
 
+use crate::ordered::Tops;
 use settle::Pair;
 
-// What is to be rounded: a carry, a limb and a guard, and whether something lies below; or nothing is fixed.
+// What is to be rounded: a carry, a limb and a guard, and whether something lies below.
 #[derive(Clone, Copy)]
 pub struct Column {
-    pub fixed: bool,
     pub carry: bool,
     pub limb: u64,
     pub guard: u64,
@@ -50,20 +49,23 @@ fn is_fixed(pair: Pair, limb: u64, drop: u64) -> bool
     is_whole(pair) | is_hole(pair)
 }
 
-// The first operand's limb and the second's part of the column together.
-fn sum_column(p: u64, pair: Pair, u: u64, low: u64) -> Column
-    requires { Facing p pair u × (pair.same ≡ true) }
-    ensures { (result.guard ≡ 0) × (result.carry ≡ false → 2 ^ 63 ≤ result.limb) × (result.fixed ≡ true → Settles p pair (u + low) result) }
+// The first operand's limb and the second's part of the column together, where they fix the sum.
+fn sum_column(tops: Tops, low: u64) -> Option<Column>
+    requires { tops.pair.same ≡ true }
+    ensures { IfSome result (λ c. (c.guard ≡ 0) × (c.carry ≡ false → 2 ^ 63 ≤ c.limb) × Settles tops.precision tops.pair (tops.first + low) c) }
 {
-    let s = limb::add_carry(u, low, false);
-    let drop = 64 + (s.carry as u64) - p;
-    Column {
-        fixed: is_fixed(pair, s.limb, drop),
+    let pair = tops.pair;
+    let s = limb::add_carry(tops.first, low, false);
+    let drop = 64 + (s.carry as u64) - tops.precision;
+    if !is_fixed(pair, s.limb, drop) {
+        return None;
+    }
+    Some(Column {
         carry: s.carry,
         limb: s.limb,
         guard: 0,
         more: 64 <= pair.gap,
-    }
+    })
 }
 
 // Whether the greatest difference has something more than what is read.
@@ -90,28 +92,30 @@ fn is_inside(p: u64, limb: u64) -> bool
     }
 }
 
-// The first operand's limb less the second's part, outside a hole.
-fn difference_column(p: u64, pair: Pair, u: u64, low: u64) -> Column
-    requires { Facing p pair u × (pair.same ≡ false) × (is_hole pair ≡ false) × (low < u) }
-    ensures { (result.carry ≡ false) × (result.fixed ≡ true → Settles p pair (u - low) result) }
+// The first operand's limb less the second's part, outside a hole, where that fixes the difference.
+fn difference_column(tops: Tops, low: u64) -> Option<Column>
+    requires { (tops.pair.same ≡ false) × (is_hole tops.pair ≡ false) × (low < tops.first) }
+    ensures { IfSome result (λ c. (c.carry ≡ false) × Settles tops.precision tops.pair (tops.first - low) c) }
 {
-    let d = u - low;
-    Column {
-        fixed: is_whole(pair) | is_inside(p, d),
+    let pair = tops.pair;
+    let d = tops.first - low;
+    if !(is_whole(pair) | is_inside(tops.precision, d)) {
+        return None;
+    }
+    Some(Column {
         carry: false,
         limb: d,
         guard: 0,
         more: has_more(pair),
-    }
+    })
 }
 
 // The first operand's limb less a little, in a hole.
 fn lessened(u: u64) -> Column
     requires { 0 < u }
-    ensures { result ≡ record { fixed = true; carry = false; limb = u - 1; guard = 18446744073709551615; more = true } }
+    ensures { result ≡ record { carry = false; limb = u - 1; guard = 18446744073709551615; more = true } }
 {
     Column {
-        fixed: true,
         carry: false,
         limb: u - 1,
         guard: 18446744073709551615,
@@ -119,49 +123,27 @@ fn lessened(u: u64) -> Column
     }
 }
 
-// Nothing is fixed.
-fn unsettled() -> Column
-    ensures { result.fixed ≡ false }
-{
-    Column {
-        fixed: false,
-        carry: false,
-        limb: 1,
-        guard: 0,
-        more: false,
-    }
-}
-
 // The first column of unlike signs, where it fixes the answer; the first operand is then seen to be the larger.
-pub fn difference_of(p: u64, pair: Pair, u: u64, v: u64) -> Column
-    requires { Facing p pair u × (pair.same ≡ false) }
-    ensures { result.fixed ≡ true → Found p pair u v result × (result.carry ≡ false) }
+pub fn difference_of(tops: Tops) -> Option<Column>
+    requires { tops.pair.same ≡ false }
+    ensures { IfSome result (λ c. Found tops.precision tops.pair tops.first tops.second c × (c.carry ≡ false)) }
 {
+    let pair = tops.pair;
+    let u = tops.first;
     if is_hole(pair) {
-        return lessened(u);
+        return Some(lessened(u));
     }
-    let low = part(v, pair.gap);
+    let low = part(tops.second, pair.gap);
     if u <= low {
-        return unsettled();
+        return None;
     }
-    difference_column(p, pair, u, low)
+    difference_column(tops, low)
 }
 
 // The first column of one sign, where it fixes the answer.
-pub fn sum_of(p: u64, pair: Pair, u: u64, v: u64) -> Column
-    requires { Facing p pair u × (pair.same ≡ true) }
-    ensures { result.fixed ≡ true → Found p pair u v result × (result.guard ≡ 0) × (result.carry ≡ false → 2 ^ 63 ≤ result.limb) }
+pub fn sum_of(tops: Tops) -> Option<Column>
+    requires { tops.pair.same ≡ true }
+    ensures { IfSome result (λ c. Found tops.precision tops.pair tops.first tops.second c × (c.guard ≡ 0) × (c.carry ≡ false → 2 ^ 63 ≤ c.limb)) }
 {
-    sum_column(p, pair, u, part(v, pair.gap))
-}
-
-// The first column, where it fixes the answer.
-pub fn column_of(p: u64, pair: Pair, u: u64, v: u64) -> Column
-    requires { Facing p pair u }
-    ensures { result.fixed ≡ true → Found p pair u v result }
-{
-    if pair.same {
-        return sum_of(p, pair, u, v);
-    }
-    difference_of(p, pair, u, v)
+    sum_column(tops, part(tops.second, tops.pair.gap))
 }

@@ -6,11 +6,12 @@
 //     sum    c [ limb               ]         p digits, and below them the rest
 #![tactic(auto)]
 
+mod ordered; // ordered.rt: two operands in order, by their top limbs
 mod column; // column.rt: the first column as a run to be rounded
-mod seeing; // seeing.rt: the run rounded
-mod looking; // looking.rt: the same of two operands in any order
-mod like; // like.rt: two operands of one sign
-mod unlike; // unlike.rt: two operands of unlike signs
+mod seeing; // seeing.rt: what is seen of the run, and exact differences
+mod like; // like.rt: the run of two operands of one sign rounded, in any order
+mod unlike; // unlike.rt: the same of unlike signs
+mod looking; // looking.rt: the same of any signs
 mod alone; // alone.rt: the same of an operand alone
 
 pub use alone::look_alone;

@@ -1,81 +1,59 @@
 // What the first column of two operands of unlike signs fixes, whichever of them is the larger.
-ghost use Rattle.std.specs.Prelude.{◌≡◌, true, false, ◌+◌, ◌^◌, ◌≤◌, ◌<◌};
+ghost use Rattle.std.specs.Prelude.{◌≡◌, true, false, ◌≤◌, IfSome};
 ghost use Rattle.numbers.specs.Limits.{least_precision};
-ghost use Rattle.numbers.specs.Operand.{Operand, WellFormed};
-ghost use Rattle.checks.specs.Number.{operand_of};
-ghost use Rattle.narrow.specs.Sighting.{Held, Facing, Told};
+ghost use Rattle.numbers.specs.Operand.{Operand};
+ghost use Rattle.checks.specs.Held.{regular};
+ghost use Rattle.narrow.specs.Sighting.{Held, Told};
 ghost use Rattle.narrow.specs.Looked.{Looked};
 
 use crate::column::difference_of;
-use crate::looking::{Sight, is_second_larger};
-use crate::seeing::{Seen, nothing, see_exact};
-use checks::Number;
-use choice::either;
+use crate::looking::{Sight, sight_of};
+use crate::ordered::{Tops, tops_of};
+use crate::seeing::{Seen, is_exact, see_exact};
+use checks::Regular;
+use choice::is_second_larger;
 use rounding::Mode;
-use settle::Pair;
 
-// Whether all digits of both operands are among the p first of the column.
-fn is_kept(p: u64, pair: Pair) -> bool
-    requires { pair.gap + pair.second < 2 ^ 64 }
-    ensures { result ≡ true → (pair.first ≤ p) × (pair.gap + pair.second ≤ p) }
+// What the first column of two operands of unlike signs in order fixes: exact, or rounded as the mode says. The first is then seen to be the larger, or all cancels.
+#[inline(always)]
+fn see_unlike(mode: Mode, negative: bool, tops: Tops) -> Option<Seen>
+    requires { tops.pair.same ≡ false }
+    ensures { IfSome result (λ s. (x y : Operand) → Held x y tops.pair tops.first tops.second → negative ≡ x.negative → Told mode tops.precision x y s.negative s.limb s.placed) }
 {
-    (pair.first <= p) & (pair.gap + pair.second <= p)
-}
-
-// What the first column of two operands of unlike signs in order fixes: exact, or rounded as the mode says.
-fn see_unlike(mode: Mode, negative: bool, p: u64, pair: Pair, u: u64, v: u64) -> Seen
-    requires { Facing p pair u × (pair.same ≡ false) }
-    ensures { result.open ≡ false → (x y : Operand) → Held x y pair u v → negative ≡ x.negative → Told mode p x y result.negative result.limb result.placed }
-{
-    if is_kept(p, pair) {
-        return see_exact(mode, negative, p, pair, u, v);
+    if is_exact(tops) {
+        return see_exact(mode, negative, tops);
     }
-    let c = difference_of(p, pair, u, v);
-    if !c.fixed {
-        return nothing();
-    }
-    let r = place::round_raised(negative, c.limb, c.guard, c.more, pair.top - 128, p, mode);
+    let c = difference_of(tops)?;
+    let r = place::round_raised(
+        negative,
+        c.limb,
+        c.guard,
+        c.more,
+        tops.pair.top - 128,
+        tops.precision,
+        mode,
+    );
     let placed = r.placed;
-    Seen {
-        open: false,
+    Some(Seen {
         negative: negative,
         limb: r.limb,
         placed: placed,
-    }
+    })
 }
 
-// What the first column of two regular operands of unlike signs fixes.
-pub fn look_unlike(mode: Mode, x: Number, xl: &[u64], y: Number, yl: &[u64], p: u64) -> Sight
-    requires { WellFormed (operand_of x xl.now) × ((operand_of x xl.now).is_zero ≡ false) × WellFormed (operand_of y yl.now) × ((operand_of y yl.now).is_zero ≡ false) × (least_precision ≤ p) × (p ≤ 62) × (x.negative ≡ y.negative → ⊥) }
-    ensures { result.seen.open ≡ false → Looked mode p (operand_of x xl.now) (operand_of y yl.now) result }
+// What the first column of two regular operands of unlike signs fixes; the larger has the sign of the first where they are not swapped.
+#[inline(always)]
+#[tactic(auto, using(checks::proofs::Held::held_limb))]
+pub fn look_unlike(mode: Mode, x: Regular, y: Regular, p: u64) -> Option<Sight>
+    requires { (least_precision ≤ p) × (p ≤ 62) × (x.number.negative ≡ y.number.negative → ⊥) }
+    ensures { IfSome result (Looked mode p (regular x.entry) (regular y.entry)) }
 {
-    let u = xl[xl.len() - 1];
-    let v = yl[yl.len() - 1];
-    let a = checks::counted_exponent(x.exponent);
-    let b = checks::counted_exponent(y.exponent);
+    let u = x.limbs[x.limbs.len() - 1];
+    let v = y.limbs[y.limbs.len() - 1];
+    let a = checks::counted_exponent(x.number.exponent);
+    let b = checks::counted_exponent(y.number.exponent);
     let swapped = is_second_larger(a, b, u, v);
-    let top = either(swapped, a, b);
-    let gap = top - either(swapped, b, a);
-    let pair = Pair {
-        same: false,
-        first: either(swapped, x.precision, y.precision),
-        second: either(swapped, y.precision, x.precision),
-        gap: gap,
-        top: top,
-    };
-    let seen = see_unlike(
-        mode,
-        x.negative != swapped,
-        p,
-        pair,
-        either(swapped, u, v),
-        either(swapped, v, u),
-    );
-    let lower = (gap < 64) as u64;
-    Sight {
-        seen: seen,
-        negative: seen.negative,
-        first: either(swapped, 1, lower),
-        second: either(swapped, lower, 1),
-    }
+    let tops = tops_of(x, y, p, swapped, false);
+    let seen = see_unlike(mode, x.number.negative != swapped, tops)?;
+    Some(sight_of(seen, tops, swapped))
 }

@@ -2,7 +2,7 @@
 use mathlib.Core.Path.{◌≡◌, refl, sym, ap, ◌∙◌}
 use mathlib.Core.Bool.{Bool, true, false, not, ◌&&◌, beq, true≢false}
 use mathlib.Core.List.{List}
-use Prim.Native.Nat.{ℕ, ◌≤◌}
+use Prim.Native.Nat.{ℕ, ◌≤◌, ◌<◌}
 use native.Mathlib.Omega.{arith}
 use borrow.Author.Tests.{leb-true}
 use lib.Dec.{leb}
@@ -12,6 +12,8 @@ use Rattle.numbers.specs.Operand.{Operand, WellFormed, zero_like}
 use Rattle.numbers.proofs.Digits.{zero_well_formed}
 use Rattle.rounding.specs.Mode.{mode_of}
 use Rattle.rounding.specs.declared.Mode.{Mode}
+use Rattle.rounding.specs.declared.UnknownMode.{UnknownMode}
+use Rattle.std.proofs.Common.{Result, Ok, Err, MatchResult, IsOk}
 use Rattle.rounding.specs.Answer.{Answer}
 use Rattle.rounding.specs.Sum.{add}
 use Rattle.depth.specs.Depth.{plus, result}
@@ -58,6 +60,14 @@ plain_unlike true false true h = (refl, λ e. true≢false (sym e))
 plain_unlike true false false h = absurd (true≢false (sym h))
 plain_unlike false s t h = absurd (true≢false (sym h))
 
+-- the mode of a number that check 1 lets pass
+pub known_told : {r : Result Mode UnknownMode} {m : Mode} (n : ℕ) → MatchResult r (λ mode. (n ≤ 3) × (mode ≡ mode_of n)) (λ u. 3 < n) → r ≡ Ok m → m ≡ mode_of n
+known_told {r} {m} n t e = let h : MatchResult {E = UnknownMode} (Ok m) (λ mode. (n ≤ 3) × (mode ≡ mode_of n)) (λ u. 3 < n) = rw e at t in h.1
+
+pub known_some : (r : Result Mode UnknownMode) {n : ℕ} → MatchResult r (λ mode. (n ≤ 3) × (mode ≡ mode_of n)) (λ u. 3 < n) → n ≤ 3 → IsOk r
+known_some (Ok m) t l = refl
+known_some (Err u) t l = absurd (omega arith)
+
 -- what a look tells has an exponent in range
 pub looked_ranged : (o : Mode) (p : ℕ) (x y : Operand) (sight : Sight) → Looked o p x y sight → Ranged sight.seen.placed
 looked_ranged o p x y sight l = sum_ranged o p x y sight.seen.placed l.left.told
@@ -68,7 +78,7 @@ unfolding zero_like
 alone_ranged o p x sight g l = looked_ranged o p x (zero_like x) sight (l (zero_like x) (zero_well_formed x g) refl)
 
 pub looked_reported : (o : Mode) (p : ℕ) (x y : Operand) (sight : Sight) (entry : List ℕ) {s : Sum} → Room p (length entry) → p ≤ 62 → Looked o p x y sight
-    → ((a : Answer) → Signed sight.negative a → sight.seen.placed ≡ placed_of a → s ≡ sum_of a p 1 sight.first sight.second)
+    → ((a : Answer) → Signed sight.seen.negative a → sight.seen.placed ≡ placed_of a → s ≡ sum_of a p 1 sight.first sight.second)
     → Reported plus o p x y (set entry 0 sight.seen.limb) s
 unfolding result
 looked_reported o p x y sight entry {s} room h l told =
@@ -102,15 +112,12 @@ attempted_reported o p x y w exit {s} l told =
 
 -- ---- copies of the operands
 
-module _ {a b x y : Number} (mode p : ℕ) (xl yl : List ℕ) (i : a ≡ x) (j : b ≡ y) where
-  pub copies_ready : (n : ℕ) → (mode ≤ 3) × WellFormed (operand_of x xl) × WellFormed (operand_of y yl) × Room p n → (mode ≤ 3) × WellFormed (operand_of a xl) × WellFormed (operand_of b yl) × Room p n
-  copies_ready n h = rw (i, j) h
+module _ {a b x y : Number} (xl yl : List ℕ) (i : a ≡ x) (j : b ≡ y) where
+  pub copies_reported : (mode : Mode) (p : ℕ) (exit : List ℕ) (s : Sum) → Reported plus mode p (operand_of a xl) (operand_of b yl) exit s → Reported plus mode p (operand_of x xl) (operand_of y yl) exit s
+  copies_reported mode p exit s h = rw (i, j) at h
 
-  pub copies_reported : (exit : List ℕ) (s : Sum) → Reported plus (mode_of mode) p (operand_of a xl) (operand_of b yl) exit s → Reported plus (mode_of mode) p (operand_of x xl) (operand_of y yl) exit s
-  copies_reported exit s h = rw (i, j) at h
-
-  pub copies_summed : (entry exit : List ℕ) {r s : Sum} → r ≡ s → Summed plus mode a xl b yl p entry exit s → Summed plus mode x xl y yl p entry exit r
-  copies_summed entry exit e h = rw e (rw (i, j) at h)
+  pub copies_summed : (mode p : ℕ) (entry exit : List ℕ) {r s : Sum} → r ≡ s → Summed plus mode a xl b yl p entry exit s → Summed plus mode x xl y yl p entry exit r
+  copies_summed mode p entry exit e h = rw e (rw (i, j) at h)
 
 module _ {a b x y : Number} (i : a ≡ x) (j : b ≡ y) (m k p n : ℕ) where
   pub copies_sized : SizesPass x.precision m y.precision k p n → SizesPass a.precision m b.precision k p n
@@ -126,9 +133,9 @@ module _ {a x : Number} (xl : List ℕ) (i : a ≡ x) where
   pub copy_kind : {b : Bool} → (operand_of a xl).is_zero ≡ b → (operand_of x xl).is_zero ≡ b
   copy_kind h = rw i at h
 
-  pub copy_doubled : (mode p : ℕ) (exit : List ℕ) (s : Sum) → Reported plus (mode_of mode) p (operand_of a xl) (operand_of a xl) exit s → Reported plus (mode_of mode) p (operand_of x xl) (operand_of x xl) exit s
+  pub copy_doubled : (mode : Mode) (p : ℕ) (exit : List ℕ) (s : Sum) → Reported plus mode p (operand_of a xl) (operand_of a xl) exit s → Reported plus mode p (operand_of x xl) (operand_of x xl) exit s
   copy_doubled mode p exit s h = rw i at h
 
-  pub copy_alone : (mode p : ℕ) (exit : List ℕ) (s : Sum) → ((z : Operand) → WellFormed z → z.is_zero ≡ true → Reported plus (mode_of mode) p (operand_of a xl) z exit s)
-      → (z : Operand) → WellFormed z → z.is_zero ≡ true → Reported plus (mode_of mode) p (operand_of x xl) z exit s
+  pub copy_alone : (mode : Mode) (p : ℕ) (exit : List ℕ) (s : Sum) → ((z : Operand) → WellFormed z → z.is_zero ≡ true → Reported plus mode p (operand_of a xl) z exit s)
+      → (z : Operand) → WellFormed z → z.is_zero ≡ true → Reported plus mode p (operand_of x xl) z exit s
   copy_alone mode p exit s h = rw i at h

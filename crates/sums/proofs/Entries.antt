@@ -1,6 +1,6 @@
 -- What the checks leave to a sum, and what its cases give to add and re-round. Assumes nothing.
 use mathlib.Core.Path.{◌≡◌, refl, sym, ap, ◌∙◌, subst}
-use mathlib.Core.Bool.{Bool, true}
+use mathlib.Core.Bool.{Bool, true, false}
 use mathlib.Core.List.{List}
 use Prim.Native.Nat.{ℕ, ◌^◌, ◌≤◌}
 use lib.ListN.{length, replicate}
@@ -8,6 +8,7 @@ use Rattle.numbers.proofs.Digits.{zero_well_formed}
 use Rattle.limb.specs.Value.{Below}
 use Rattle.numbers.specs.Operand.{Operand, WellFormed, zero_like}
 use Rattle.rounding.specs.Mode.{mode_of}
+use Rattle.rounding.specs.declared.Mode.{Mode}
 use Rattle.rounding.specs.Answer.{zero_of}
 use Rattle.rounding.specs.Sum.{zero_sign}
 use Rattle.depth.specs.Depth.{Operation, plus}
@@ -28,12 +29,12 @@ unfolding operand_of
 kind_told x xl e f = sym e ∙ f
 
 -- two zeros
-pub zeros_told : (mode p : ℕ) (x : Number) (xl : List ℕ) (y : Number) (yl : List ℕ) → (operand_of x xl).is_zero ≡ true → (operand_of y yl).is_zero ≡ true
+pub zeros_told : (mode : Mode) (p : ℕ) (x : Number) (xl : List ℕ) (y : Number) (yl : List ℕ) → (operand_of x xl).is_zero ≡ true → (operand_of y yl).is_zero ≡ true
     → (entry : List ℕ) {exit : List ℕ} {v : Bool} {r : Sum} → Room p (length entry) → exit ≡ replicate (length entry) 0
-    → v ≡ zero_sign (mode_of mode) x.negative y.negative → r ≡ sum_of (zero_of v) p 0 0 0 → Reported plus (mode_of mode) p (operand_of x xl) (operand_of y yl) exit r
+    → v ≡ zero_sign mode x.negative y.negative → r ≡ sum_of (zero_of v) p 0 0 0 → Reported plus mode p (operand_of x xl) (operand_of y yl) exit r
 unfolding operand_of
 zeros_told mode p x xl y yl a b entry {exit} room e f g =
-    rw (g, f) (zeros_reported (mode_of mode) p (operand_of x xl) (operand_of y yl) a b exit (e ∙ ap (λ (n : ℕ). replicate n 0) room.count))
+    rw (g, f) (zeros_reported mode p (operand_of x xl) (operand_of y yl) a b exit (e ∙ ap (λ (n : ℕ). replicate n 0) room.count))
 
 -- a well-formed zero is the zero that re-rounding adds to it
 pub zero_alike : (x : Operand) → WellFormed x → x.is_zero ≡ true → x ≡ zero_like x
@@ -42,6 +43,15 @@ zero_alike x g z =
     ap (λ (b : Bool). record { negative = x.negative; is_zero = b; precision = x.precision; exponent = x.exponent; limbs = x.limbs }) z
     ∙ ap (λ (e : ℕ). record { negative = x.negative; is_zero = true; precision = x.precision; exponent = e; limbs = x.limbs }) (g.zero z)
 
+-- what a look at the first column asks of two numbers and of the target
+pub record Plain (x : Number) (xl : List ℕ) (y : Number) (yl : List ℕ) (p n : ℕ) : Type 0 where
+  pub first : WellFormed (operand_of x xl)
+  pub second : WellFormed (operand_of y yl)
+  pub first_regular : is_zero_kind x.kind ≡ false
+  pub second_regular : is_zero_kind y.kind ≡ false
+  pub room : Room p n
+  pub few : p ≤ 62
+
 -- where nothing is refused
 module _ (mode : ℕ) (x : Number) (xl : List ℕ) (y : Number) (yl : List ℕ) (p : ℕ) (entry : List ℕ) (e : pair_refusal mode (operand_of x xl) (operand_of y yl) p (length entry) ≡ accepted) where
   pub accepted_ready : Below (2 ^ 64) xl → Below (2 ^ 64) yl → (mode ≤ 3) × WellFormed (operand_of x xl) × WellFormed (operand_of y yl) × Room p (length entry)
@@ -49,6 +59,9 @@ module _ (mode : ℕ) (x : Number) (xl : List ℕ) (y : Number) (yl : List ℕ) 
   accepted_ready wx wy =
       let g = accepted_well_formed mode (operand_of x xl) (operand_of y yl) p (length entry) wx wy e in
       (g.mode_small, g.first, g.second, record { least = g.target.least; most = g.target.most; count = g.target.count })
+
+  pub accepted_plain : Below (2 ^ 64) xl → Below (2 ^ 64) yl → p ≤ 62 → is_zero_kind x.kind ≡ false → is_zero_kind y.kind ≡ false → Plain x xl y yl p (length entry)
+  accepted_plain wx wy few i j = let g = accepted_ready wx wy in record { first = g.1; second = g.2; first_regular = i; second_regular = j; room = g.3; few = few }
 
   pub accepted_reported : {f : Operation} {exit : List ℕ} {s : Sum} → Reported f (mode_of mode) p (operand_of x xl) (operand_of y yl) exit s → Summed f mode x xl y yl p entry exit s
   accepted_reported d = record { refused = λ n. absurd (n e); reported = λ k. d }
@@ -59,6 +72,9 @@ module _ (mode : ℕ) (x : Number) (xl : List ℕ) (y : Number) (yl : List ℕ) 
 
   pub pair_ready : r.rule ≡ 0 → Below (2 ^ 64) xl → Below (2 ^ 64) yl → (mode ≤ 3) × WellFormed (operand_of x xl) × WellFormed (operand_of y yl) × Room p (length entry)
   pair_ready h wx wy = accepted_ready mode x xl y yl p entry (passed h) wx wy
+
+  pub pair_plain : r.rule ≡ 0 → Below (2 ^ 64) xl → Below (2 ^ 64) yl → (p ≤ 62) × (is_zero_kind x.kind ≡ false) × (is_zero_kind y.kind ≡ false) → Plain x xl y yl p (length entry)
+  pair_plain h wx wy t = accepted_plain mode x xl y yl p entry (passed h) wx wy t.0 t.1 t.2
 
   pub pair_refused : {f : Operation} {s : Sum} → (r.rule ≡ 0 → ⊥) → s ≡ refused_sum r 0 0 0 → Summed f mode x xl y yl p entry entry s
   unfolding accepted

@@ -5,6 +5,7 @@ ghost use Rattle.rounding.specs.declared.Mode.{Mode};
 ghost use Rattle.rounding.specs.Answer.{Answer};
 ghost use Rattle.depth.specs.Depth.{plus, minus};
 ghost use Rattle.checks.specs.Number.{is_zero_kind, operand_of};
+ghost use Rattle.checks.specs.Held.{formed};
 ghost use Rattle.checks.specs.Check.{accepted, pair_refusal};
 ghost use Rattle.admission.specs.Sizes.{SizesPass};
 ghost use Rattle.place.specs.Placed.{placed_of};
@@ -14,7 +15,7 @@ ghost use Rattle.reports.specs.Summed.{sum_of, Reported, Summed, Rerounded};
 ghost use Rattle.checks.specs.Room.{Room};
 ghost use Rattle.narrow.specs.Looked.{Looked};
 
-use checks::{Number, copied};
+use checks::{Formed, Number, Regular, copied};
 use narrow::Sight;
 use reports::Sum;
 use rounding::Mode;
@@ -26,32 +27,37 @@ fn zeros(mode: Mode, x: Number, y: Number, p: u64, target: &mut [u64]) -> Sum
     ensures { (xl yl : List ℕ) → (operand_of x xl).is_zero ≡ true → (operand_of y yl).is_zero ≡ true → Reported plus mode p (operand_of x xl) (operand_of y yl) target.new result }
 {
     parts::clear(target);
-    reports::zero(reports::zero_sign(mode, x.negative, y.negative), p, 0, 0, 0)
+    let sign = reports::zero_sign(mode, x.negative, y.negative);
+    reports::zero(sign, p, 0, 0, 0)
 }
 
 // Where checks 1 to 5 pass.
-fn summed(
-    mode: Mode,
-    x: Number,
-    xl: &[u64],
-    y: Number,
-    yl: &[u64],
-    p: u64,
-    target: &mut [u64],
-) -> Sum
-    requires { WellFormed (operand_of x xl.now) × WellFormed (operand_of y yl.now) × Room p (length target.old) }
-    ensures { Reported plus mode p (operand_of x xl.now) (operand_of y yl.now) target.new result }
+fn summed(mode: Mode, x: Formed, y: Formed, p: u64, target: &mut [u64]) -> Sum
+    requires { Room p (length target.old) }
+    ensures { Reported plus mode p (formed x.entry) (formed y.entry) target.new result }
 {
-    if checks::is_zero(x) {
-        if checks::is_zero(y) {
-            return zeros(mode, x, y, p, target);
+    if checks::is_zero(x.number) {
+        if checks::is_zero(y.number) {
+            return zeros(mode, x.number, y.number, p, target);
         }
-        return reports::exchanged(general::single(mode, y, yl, p, target));
+        let second = Regular {
+            number: y.number,
+            limbs: y.limbs,
+        };
+        return reports::exchanged(general::single(mode, second, p, target));
     }
-    if checks::is_zero(y) {
-        return general::single(mode, x, xl, p, target);
+    let first = Regular {
+        number: x.number,
+        limbs: x.limbs,
+    };
+    if checks::is_zero(y.number) {
+        return general::single(mode, first, p, target);
     }
-    general::both(mode, x, xl, y, yl, p, target)
+    let second = Regular {
+        number: y.number,
+        limbs: y.limbs,
+    };
+    general::both(mode, first, second, p, target)
 }
 
 // Whether two numbers are regular, and the digits are so few that their first column may tell all.
@@ -85,7 +91,7 @@ fn told(sight: Sight, p: u64, target: &mut [u64]) -> Sum
     let seen = sight.seen;
     let placed = seen.placed;
     target[0] = seen.limb;
-    reports::answered(placed, sight.negative, p, 1, sight.first, sight.second)
+    reports::answered(placed, seen.negative, p, 1, sight.first, sight.second)
 }
 
 // x + y, rounded to p digits: at once where the first column fixes it, or the columns that fill the target. The first column was looked at already
@@ -108,22 +114,34 @@ fn add_sized<'a>(
     if refusal.rule != 0 {
         return reports::refused(refusal, 0, 0, 0);
     }
-    let Ok(known) = Mode::try_from(mode) else {
-        return reports::refused(refusal, 0, 0, 0);
-    };
+    let known = Mode::try_from(mode).unwrap();
     if (x.negative == y.negative) != like {
         if is_narrow(p, x, y) {
-            let sight = narrow::look(known, x, xl, y, yl, p);
-            if !sight.seen.open {
+            let first = Regular {
+                number: x,
+                limbs: xl,
+            };
+            let second = Regular {
+                number: y,
+                limbs: yl,
+            };
+            if let Some(sight) = narrow::look(known, first, second, p) {
                 return told(sight, p, target);
             }
         }
     }
-    let attempt = ways::attempt(known, x, xl, y, yl, p, target);
-    if attempt.open {
-        return reports::retold(summed(known, copied(x), &xl[..], copied(y), &yl[..], p, target));
+    if let Some(attempt) = ways::attempt(known, x, xl, y, yl, p, target) {
+        return reported(attempt, p);
     }
-    reported(attempt, p)
+    let first = Formed {
+        number: copied(x),
+        limbs: &xl[..],
+    };
+    let second = Formed {
+        number: copied(y),
+        limbs: &yl[..],
+    };
+    reports::retold(summed(known, first, second, p, target))
 }
 
 // Where the sizes do not pass: the first test that fails, by the tests in their order. Of the target its length is enough.
@@ -164,11 +182,17 @@ pub fn add<'a>(
 {
     let n = target.len();
     if is_plain(mode, x, xl, y, yl, p, n) & (x.negative == y.negative) {
-        if let Ok(known) = Mode::try_from(mode) {
-            let sight = narrow::look_like(known, x, xl, y, yl, p);
-            if !sight.seen.open {
-                return told(sight, p, target);
-            }
+        let known = Mode::try_from(mode).unwrap();
+        let first = Regular {
+            number: x,
+            limbs: xl,
+        };
+        let second = Regular {
+            number: y,
+            limbs: yl,
+        };
+        if let Some(sight) = narrow::look_like(known, first, second, p) {
+            return told(sight, p, target);
         }
     }
     if !admission::sizes_pass(x.precision, xl.len(), y.precision, yl.len(), p, n) {
@@ -201,11 +225,17 @@ pub fn subtract<'a>(
     let turned = checks::turn_sign(y);
     let n = target.len();
     if is_plain(mode, x, xl, turned, yl, p, n) & (x.negative != turned.negative) {
-        if let Ok(known) = Mode::try_from(mode) {
-            let sight = narrow::look_unlike(known, x, xl, turned, yl, p);
-            if !sight.seen.open {
-                return told(sight, p, target);
-            }
+        let known = Mode::try_from(mode).unwrap();
+        let first = Regular {
+            number: x,
+            limbs: xl,
+        };
+        let second = Regular {
+            number: turned,
+            limbs: yl,
+        };
+        if let Some(sight) = narrow::look_unlike(known, first, second, p) {
+            return told(sight, p, target);
         }
     }
     if !admission::sizes_pass(x.precision, xl.len(), turned.precision, yl.len(), p, n) {
@@ -231,12 +261,13 @@ pub fn reround(mode: u8, x: Number, xl: &[u64], p: u64, target: &mut [u64]) -> S
     if refusal.rule != 0 {
         return reports::refused(refusal, 0, 0, 0);
     }
-    let Ok(known) = Mode::try_from(mode) else {
-        return reports::refused(refusal, 0, 0, 0);
-    };
+    let known = Mode::try_from(mode).unwrap();
     if is_narrow(p, x, x) {
-        let sight = narrow::look_alone(known, x, xl, p);
-        if !sight.seen.open {
+        let alone = Regular {
+            number: x,
+            limbs: xl,
+        };
+        if let Some(sight) = narrow::look_alone(known, alone, p) {
             return told(sight, p, target);
         }
     }
@@ -244,5 +275,9 @@ pub fn reround(mode: u8, x: Number, xl: &[u64], p: u64, target: &mut [u64]) -> S
     if checks::is_zero(alike) {
         return zeros(known, alike, alike, p, target);
     }
-    general::single(known, alike, xl, p, target)
+    let alone = Regular {
+        number: alike,
+        limbs: xl,
+    };
+    general::single(known, alone, p, target)
 }

@@ -1,30 +1,22 @@
 -- `alone::look_alone`: the last limb of a regular operand is its top limb, and what is seen of that is told of it and any zero. Assumes nothing.
-use mathlib.Core.Path.{refl}
-use native.Mathlib.Omega.{arith}
-use mir.Facts.{to_z-of_z}
+use mathlib.Core.Path.{◌≡◌, refl}
+use Rattle.std.proofs.Common.{rules}
+use Rattle.numbers.specs.Limits.{counted}
+use Rattle.checks.specs.Number.{operand_of}
 use Rattle.narrow.specs.Sighting.{top_limb}
-use Rattle.descent.proofs.Handed.{handed_some}
 use Rattle.narrow.proofs.Lone.{lone, alone_looked}
 use Rattle.narrow.proofs.alone.look_alone.Goals as goal
 
-pub overflow_sub-u : goal.overflow_sub-u
-overflow_sub-u c =
-    omega (arith, handed_some c.args.x c.args.xl.now c.requires.0)
-
-pub bounds-xl-xl : goal.bounds-xl-xl
-bounds-xl-xl c =
-    omega (arith, handed_some c.args.x c.args.xl.now c.requires.0)
-
-pub see_alone-seen-requires : goal.see_alone-seen-requires
-unfolding top_limb
-see_alone-seen-requires c =
-    let a = c.args in
-    let height = rw (to_z-of_z (record { sfits = c.struct_told-1.given.1.1.1.0.1 })) at c.counted_exponent-top.ensures in
-    lone a.p c.requires.2 c.requires.3 a.x a.xl.now c.requires.0 c.requires.1 _ (top_limb a.xl.now) height refl
+pub see_alone-requires : goal.see_alone-requires
+unfolding top_limb operand_of
+see_alone-requires c =
+    let x = c.args.x in
+    let height : c.counted_exponent-top.result ≡ counted x.number.exponent = search rules in
+    lone _ c.requires.0 c.requires.1 x.number x.limbs.now x.formed x.regular _ _ height refl
 
 pub returns : goal.returns
-unfolding top_limb
+unfolding top_limb operand_of
 returns c =
-    let a = c.args in
-    let height = rw (to_z-of_z (record { sfits = c.struct_told-1.given.1.1.1.0.1 })) at c.counted_exponent-top.ensures in
-    alone_looked a.p c.requires.2 c.requires.3 a.x a.xl.now c.requires.0 c.requires.1 _ (top_limb a.xl.now) height refl a.mode c.see_alone-seen.result c.see_alone-seen.ensures
+    let x = c.args.x in
+    let height : c.counted_exponent-top.result ≡ counted x.number.exponent = search rules in
+    alone_looked _ c.requires.0 c.requires.1 x.number x.limbs.now x.formed x.regular _ _ height refl c.args.mode c.in_ok-seen.seen c.in_ok-seen.ensures

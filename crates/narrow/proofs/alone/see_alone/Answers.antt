@@ -1,14 +1,9 @@
 -- `alone::see_alone` is right since the top limb of an operand is its first column, and where that fixes the answer, the limb is rounded to it. Assumes nothing.
-use mathlib.Core.Path.{sym, ◌∙◌}
-use mathlib.Core.Bool.{true≢false}
 use Prim.Native.Nat.{◌^◌, ◌<◌}
 use borrow.Author.Rules.{rules}
 use Rattle.narrow.proofs.Passed.{top_high}
 use Rattle.narrow.proofs.Lone.{alone_passes, alone_told}
 use Rattle.narrow.proofs.alone.see_alone.Goals as goal
-
-pub returns-then-not-fixed : goal.returns-then-not-fixed
-returns-then-not-fixed c = λ e. absurd (true≢false (sym c.nothing.ensures ∙ e))
 
 pub overflow_sub-top : goal.overflow_sub-top
 overflow_sub-top c = top_high _ c.requires.low
@@ -23,4 +18,4 @@ returns c =
     let t = c.has_rest in
     let o = c.round_limb-r in
     let lt : a.u < 2 ^ 64 = search rules in
-    λ e. alone_told a.p a.top a.u c.requires a.first t.result lt t.ensures (c.if-not-fixed.false) a.mode a.negative o.result.limb o.result.placed o.ensures.placed_value o.ensures.limb_value
+    alone_told a.p a.top a.u c.requires a.first t.result lt t.ensures (c.if-not-fixed.false) a.mode a.negative o.result.limb o.result.placed o.ensures.placed_value o.ensures.limb_value

@@ -13,13 +13,13 @@ overflow_add-drop c = record { fits = omega (arith, byte_le c.add_carry-s.result
 
 pub is_fixed-requires : goal.is_fixed-requires
 is_fixed-requires c =
-    let f = c.requires.0 in
+    let f = c.args.tops.facing in
     let h = byte_le c.add_carry-s.result.carry in
     (omega (arith, f.most), omega (arith, f.least, two_digits), sums_fit _ _ _ f)
 
 pub returns : goal.returns
 returns c =
-    let a = c.args in
+    let t = c.args.tops in
     let s = c.add_carry-s in
     let lt : s.result.limb < 2 ^ 64 = search rules in
-    (refl, sum_led a.p a.pair a.u c.requires.0 c.requires.1 a.low s.result.limb s.result.carry s.ensures lt, λ e. sum_settles a.p a.pair a.u c.requires.0 c.requires.1 a.low s.result.limb s.result.carry s.ensures lt _ (c.is_fixed.ensures e))
+    (refl, sum_led t.precision t.pair t.first t.facing c.requires c.args.low s.result.limb s.result.carry s.ensures lt, sum_settles t.precision t.pair t.first t.facing c.requires c.args.low s.result.limb s.result.carry s.ensures lt (c.is_fixed.ensures c.if-not-is_fixed.false))

@@ -1,51 +1,13 @@
--- `like::look_like`: the operands are of one sign, which is the answer's; they are taken in the order of their exponents, and what the first column fixes of them is told in their own order. Assumes nothing.
-use mathlib.Core.Path.{refl}
-use mathlib.Core.Bool.{true}
-use native.Mathlib.Omega.{arith}
-use mir.Facts.{to_z-of_z}
-use lib.Dec.{ltb}
-use Rattle.narrow.specs.Sighting.{top_limb}
-use Rattle.descent.proofs.Handed.{handed_some}
-use Rattle.narrow.proofs.InOrder.{gap_some, facing, looked, looked_named, exponents_told, like_told, like_larger}
+-- `like::look_like`: the operands are of one sign, which is the answer's; they are taken in the order of their exponents. Assumes nothing.
+use Rattle.checks.specs.Number.{operand_of}
+use Rattle.checks.specs.Held.{regular}
+use Rattle.narrow.proofs.InOrder.{like_larger}
 use Rattle.narrow.proofs.like.look_like.Goals as goal
 
-pub overflow_sub-u : goal.overflow_sub-u
-overflow_sub-u c =
-    omega (arith, handed_some c.args.x c.args.xl.now c.requires.0)
-
-pub bounds-xl-xl : goal.bounds-xl-xl
-bounds-xl-xl c =
-    omega (arith, handed_some c.args.x c.args.xl.now c.requires.0)
-
-pub overflow_sub-v : goal.overflow_sub-v
-overflow_sub-v c =
-    omega (arith, handed_some c.args.y c.args.yl.now c.requires.2)
-
-pub bounds-yl-yl : goal.bounds-yl-yl
-bounds-yl-yl c =
-    omega (arith, handed_some c.args.y c.args.yl.now c.requires.2)
-
-pub overflow_sub-gap : goal.overflow_sub-gap
-unfolding top_limb
-overflow_sub-gap c =
-    let a = c.args in
-    let first = rw (to_z-of_z (record { sfits = c.struct_told-1.given.1.1.1.0.1 })) at c.counted_exponent-a.ensures in
-    let second = rw (to_z-of_z (record { sfits = c.struct_told-2-1.given.1.1.1.0.1 })) at c.counted_exponent-b.ensures in
-    gap_some a.mode a.p c.requires.4 c.requires.5 a.x a.xl.now a.y a.yl.now c.requires.0 c.requires.1 c.requires.2 c.requires.3 _ _ (top_limb a.xl.now) (top_limb a.yl.now) first second refl refl _ (exponents_told _ _) _ _ c.either-top.ensures c.either.ensures
-
-pub see_like-seen-requires : goal.see_like-seen-requires
-unfolding top_limb
-see_like-seen-requires c =
-    let a = c.args in
-    let first = rw (to_z-of_z (record { sfits = c.struct_told-1.given.1.1.1.0.1 })) at c.counted_exponent-a.ensures in
-    let second = rw (to_z-of_z (record { sfits = c.struct_told-2-1.given.1.1.1.0.1 })) at c.counted_exponent-b.ensures in
-    (facing a.mode a.p c.requires.4 c.requires.5 a.x a.xl.now a.y a.yl.now c.requires.0 c.requires.1 c.requires.2 c.requires.3 _ _ (top_limb a.xl.now) (top_limb a.yl.now) first second refl refl _ (exponents_told _ _) _ _ c.either-top.ensures c.either.ensures true _ _ _ _ (like_told a.x.negative a.y.negative c.requires.6) c.either-2.ensures c.either-3.ensures c.either-4.ensures c.either-5.ensures, refl)
-
 pub returns : goal.returns
-unfolding top_limb
+unfolding operand_of
 returns c =
-    let a = c.args in
-    let first = rw (to_z-of_z (record { sfits = c.struct_told-1.given.1.1.1.0.1 })) at c.counted_exponent-a.ensures in
-    let second = rw (to_z-of_z (record { sfits = c.struct_told-2-1.given.1.1.1.0.1 })) at c.counted_exponent-b.ensures in
-    let seen = c.see_like-seen.ensures in
-    λ closed. looked_named _ _ _ _ _ _ _ _ _ (seen closed).0 (looked a.mode a.p c.requires.4 c.requires.5 a.x a.xl.now a.y a.yl.now c.requires.0 c.requires.1 c.requires.2 c.requires.3 _ _ (top_limb a.xl.now) (top_limb a.yl.now) first second refl refl _ (exponents_told _ _) _ _ c.either-top.ensures c.either.ensures true _ _ _ _ (like_told a.x.negative a.y.negative c.requires.6) c.either-2.ensures c.either-3.ensures c.either-4.ensures c.either-5.ensures _ _ _ _ (like_larger (ltb c.counted_exponent-a.result c.counted_exponent-b.result) a.x.negative a.y.negative c.requires.6) (λ e. (seen e).1) c.either-6.ensures c.either-7.ensures closed)
+    let t = c.tops_of-tops.ensures in
+    let told = c.in_ok-seen.ensures _ _ t.2 (like_larger _ (regular c.args.x) (regular c.args.y) c.requires.2) in
+    let e = t.0 in
+    rw e at (c.sight_of.ensures _ (regular c.args.x) (regular c.args.y) t.2 told)

@@ -1,49 +1,25 @@
--- `unlike::look_unlike`: the operands are of unlike signs, and the answer has that of the larger; they are taken in the order of their exponents, and what the first column fixes of them is told in their own order. Assumes nothing.
-use mathlib.Core.Path.{refl}
-use mathlib.Core.Bool.{false}
-use native.Mathlib.Omega.{arith}
-use mir.Facts.{to_z-of_z}
-use Rattle.narrow.specs.Sighting.{top_limb}
-use Rattle.descent.proofs.Handed.{handed_some}
-use Rattle.narrow.proofs.InOrder.{gap_some, facing, looked, unlike_told, unlike_larger}
+-- `unlike::look_unlike`: the operands are of unlike signs, and the answer has that of the larger; they are taken in the order of their exponents. Assumes nothing.
+use mathlib.Core.Path.{◌≡◌}
+use Rattle.std.proofs.Common.{rules}
+use Rattle.numbers.specs.Limits.{counted}
+use Rattle.checks.specs.Number.{operand_of}
+use Rattle.checks.specs.Held.{regular}
+use Rattle.narrow.proofs.InOrder.{order_told_lem, unlike_told, unlike_larger}
 use Rattle.narrow.proofs.unlike.look_unlike.Goals as goal
 
-pub overflow_sub-u : goal.overflow_sub-u
-overflow_sub-u c =
-    omega (arith, handed_some c.args.x c.args.xl.now c.requires.0)
-
-pub bounds-xl-xl : goal.bounds-xl-xl
-bounds-xl-xl c =
-    omega (arith, handed_some c.args.x c.args.xl.now c.requires.0)
-
-pub overflow_sub-v : goal.overflow_sub-v
-overflow_sub-v c =
-    omega (arith, handed_some c.args.y c.args.yl.now c.requires.2)
-
-pub bounds-yl-yl : goal.bounds-yl-yl
-bounds-yl-yl c =
-    omega (arith, handed_some c.args.y c.args.yl.now c.requires.2)
-
-pub overflow_sub-gap : goal.overflow_sub-gap
-unfolding top_limb
-overflow_sub-gap c =
-    let a = c.args in
-    let first = rw (to_z-of_z (record { sfits = c.struct_told-1.given.1.1.1.0.1 })) at c.counted_exponent-a.ensures in
-    let second = rw (to_z-of_z (record { sfits = c.struct_told-2-1.given.1.1.1.0.1 })) at c.counted_exponent-b.ensures in
-    gap_some a.mode a.p c.requires.4 c.requires.5 a.x a.xl.now a.y a.yl.now c.requires.0 c.requires.1 c.requires.2 c.requires.3 _ _ (top_limb a.xl.now) (top_limb a.yl.now) first second refl refl _ c.is_second_larger-swapped.ensures _ _ c.either-top.ensures c.either.ensures
-
-pub see_unlike-seen-requires : goal.see_unlike-seen-requires
-unfolding top_limb
-see_unlike-seen-requires c =
-    let a = c.args in
-    let first = rw (to_z-of_z (record { sfits = c.struct_told-1.given.1.1.1.0.1 })) at c.counted_exponent-a.ensures in
-    let second = rw (to_z-of_z (record { sfits = c.struct_told-2-1.given.1.1.1.0.1 })) at c.counted_exponent-b.ensures in
-    (facing a.mode a.p c.requires.4 c.requires.5 a.x a.xl.now a.y a.yl.now c.requires.0 c.requires.1 c.requires.2 c.requires.3 _ _ (top_limb a.xl.now) (top_limb a.yl.now) first second refl refl _ c.is_second_larger-swapped.ensures _ _ c.either-top.ensures c.either.ensures false _ _ _ _ (unlike_told a.x.negative a.y.negative c.requires.6) c.either-2.ensures c.either-3.ensures c.either-4.ensures c.either-5.ensures, refl)
+pub tops_of-tops-requires : goal.tops_of-tops-requires
+tops_of-tops-requires c =
+    let x = c.args.x in
+    let y = c.args.y in
+    let first : c.counted_exponent-a.result ≡ counted x.number.exponent = search rules in
+    let second : c.counted_exponent-b.result ≡ counted y.number.exponent = search rules in
+    let order = order_told_lem _ _ c.is_second_larger-swapped.ensures first second in
+    (c.requires.0, c.requires.1, order.0, order.1, unlike_told _ _ c.requires.2)
 
 pub returns : goal.returns
-unfolding top_limb
+unfolding operand_of
 returns c =
-    let a = c.args in
-    let first = rw (to_z-of_z (record { sfits = c.struct_told-1.given.1.1.1.0.1 })) at c.counted_exponent-a.ensures in
-    let second = rw (to_z-of_z (record { sfits = c.struct_told-2-1.given.1.1.1.0.1 })) at c.counted_exponent-b.ensures in
-    looked a.mode a.p c.requires.4 c.requires.5 a.x a.xl.now a.y a.yl.now c.requires.0 c.requires.1 c.requires.2 c.requires.3 _ _ (top_limb a.xl.now) (top_limb a.yl.now) first second refl refl _ c.is_second_larger-swapped.ensures _ _ c.either-top.ensures c.either.ensures false _ _ _ _ (unlike_told a.x.negative a.y.negative c.requires.6) c.either-2.ensures c.either-3.ensures c.either-4.ensures c.either-5.ensures _ _ _ _ (unlike_larger _ a.x.negative a.y.negative c.requires.6) c.see_unlike-seen.ensures c.either-6.ensures c.either-7.ensures
+    let t = c.tops_of-tops.ensures in
+    let told = c.in_ok-seen.ensures _ _ t.2 (unlike_larger _ (regular c.args.x) (regular c.args.y) c.requires.2) in
+    let e = t.0 in
+    rw e at (c.sight_of.ensures _ (regular c.args.x) (regular c.args.y) t.2 told)

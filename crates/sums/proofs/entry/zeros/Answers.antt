@@ -4,4 +4,4 @@ use Rattle.sums.proofs.entry.zeros.Goals as goal
 
 pub returns : goal.returns
 returns c xl yl a b =
-    zeros_told c.args.mode c.args.p c.args.x xl c.args.y yl a b c.args.target.now c.requires c.clear.ensures c.zero_sign.ensures c.zero.ensures
+    zeros_told c.args.mode _ c.args.x xl c.args.y yl a b c.args.target.now c.requires c.clear.ensures c.zero_sign-sign.ensures c.zero.ensures
