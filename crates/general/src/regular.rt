@@ -14,7 +14,8 @@ use reports::Sum;
 use rounding::Mode;
 use settle::Pair;
 
-// A regular number and a zero, whichever zero it is.
+// A regular number and a zero, whichever zero it is. A precision and its target stay two here: one struct of both would ask each function for a clause that its
+// reference stays the same.
 pub fn single(mode: Mode, x: Regular, p: u64, target: &mut [u64]) -> Sum
     requires { Room p (length target.old) }
     ensures { (z : Operand) → WellFormed z → z.is_zero ≡ true → Reported plus mode p (regular x.entry) z target.new result }
@@ -66,7 +67,8 @@ pub struct Difference {
     pub second_larger: bool,
 }
 
-// The first column in which two operands of one exponent and of as many limbs differ: no end is looked for on the way.
+// The first column in which two operands of one exponent and of as many limbs differ: no end is looked for on the way. By an index, since a limb is fetched by
+// one function.
 fn first_difference_level(x: Regular, y: Regular) -> Option<Difference>
     requires { length x.limbs.now ≡ length y.limbs.now }
     ensures { Differs x.entry.limbs.now y.entry.limbs.now result }

@@ -15,7 +15,7 @@ pub struct Column {
     pub more: bool,
 }
 
-// The digits of a limb that begins gap digits below the top of a column.
+// The digits of a limb that begins gap digits below the top of a column; by a test, since a shift that goes on past 64 takes its count in 32 bits.
 fn part(limb: u64, gap: u64) -> u64
     ensures { result ≡ limb / 2 ^ gap }
 {

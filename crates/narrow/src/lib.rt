@@ -4,6 +4,8 @@
 //     first    [ u                  ] ..
 //     second        [ v             ] ..      gap digits below
 //     sum    c [ limb               ]         p digits, and below them the rest
+//
+// What is marked `inline(always)` is called from two places, and stands in both: a call would take its operands through memory.
 #![tactic(auto)]
 
 mod ordered; // ordered.rt: two operands in order, by their top limbs

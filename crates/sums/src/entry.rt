@@ -95,7 +95,7 @@ fn told(sight: Sight, p: u64, target: &mut [u64]) -> Sum
 }
 
 // x + y, rounded to p digits: at once where the first column fixes it, or the columns that fill the target. The first column was looked at already
-// where the signs are alike, or where they are not, as `like` says. Any other way has numbers and slices of its own, so that these need not stand in
+// where the signs are alike, or where they are not, as `like` says: a flag and not a function for each, so that the sum stands once in the archive. Any other way has numbers and slices of its own, so that these need not stand in
 // memory; and the sizes are tested where the call arrives, so that the words of a slice are not copied as pairs on the way.
 fn add_sized<'a>(
     mode: u8,
