@@ -160,7 +160,7 @@ module _ (from k : ℕ) (before after : List ℕ) (leap : Leap from k (length be
     full = ap (λ (u : Window). u.filled) w_is ∙ (unfold leapt_to in refl);
     value = v ∙ head carry ∙ ap (λ (u : Window). head_of u after) (sym w_is);
     shows = λ h. subst (λ (u : Window). Shows u after (k + 1) D) (sym w_is)
-        (show_open (leapt_to from carry (length after)) after (k + 1) D (omega (arith, leap.some)) (unfold leapt_to in omega arith) (unfold leapt_to in refl) (unfold leapt_to in refl) (unfold leapt_to in refl)
+        (show_open (leapt_to from carry (length after)) after (k + 1) D (omega (arith, leap.some)) (unfold leapt_to in omega arith) (unfold leapt_to in refl) (unfold leapt_to in refl)
         (unfold leapt_to in omega (arith, leap.room)) (v ∙ head carry) (λ s. unfold leapt_to in rw places h));
   }
     where

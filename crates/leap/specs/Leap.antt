@@ -1,5 +1,5 @@
 -- Many columns at once. Definitions only.
-use Rattle.std.specs.Prelude.{ℕ, ◌+◌, ◌-◌, ◌*◌, ◌%◌, ◌^◌, ◌≤◌, ◌<◌, ◌≡◌, Bool, false, List, length}
+use Rattle.std.specs.Prelude.{ℕ, ◌+◌, ◌-◌, ◌*◌, ◌%◌, ◌^◌, ◌≤◌, ◌<◌, ◌≡◌, Bool, None, List, length}
 use Rattle.limb.specs.Carry.{bit}
 use Rattle.limb.specs.Value.{value_of}
 use Rattle.walk.specs.Window.{head_of, Shows}
@@ -29,7 +29,7 @@ pub record DifferenceColumns (x y : ℕ) (borrow : Bool) (n : ℕ) (after : List
 
 -- limbs filled, and nothing below them
 unfoldable pub leapt_to : ℕ → Bool → ℕ → Window
-leapt_to skipped carry filled = record { skipped = skipped; carry = carry; filled = filled; guarded = false; guard = 0; tail = Empty }
+leapt_to skipped carry filled = record { skipped = skipped; carry = carry; filled = filled; guard = None; tail = Empty }
 
 -- the window shows D after k columns, `from` of them passed over, where its first limb is not emptied by a borrow
 pub record Leapt (from k D : ℕ) (before after : List ℕ) (w : Window) : Type 0 where

@@ -116,8 +116,7 @@ fn shown(skipped: u64, carry: bool, filled: usize) -> Window
         skipped: skipped,
         carry: carry,
         filled: filled,
-        guarded: false,
-        guard: 0,
+        guard: None,
         tail: Tail::Empty,
     }
 }

@@ -11,13 +11,14 @@ use lib.Ieee.Digits.{size-lt}
 use lib.ListN.{length, get_or, drop_of_length-le}
 use lib.Pow.{pow-add, pow_mono}
 use borrow.Author.Tests.{eq-eqb, ne_eqb, le-leb, lt-leb}
+use Rattle.std.specs.Option.{is_some}
 use Rattle.limb.specs.Carry.{bit}
 use Rattle.limb.proofs.Carry.{bit_le}
 use Rattle.limb.proofs.Value.{value_nil, value_drop}
 use Rattle.walk.specs.declared.state.Window.{Window}
 use Rattle.walk.specs.declared.state.Tail.TheVariants.{Empty, Mixed}
 use Rattle.remnant.specs.declared.rest.Rest.{Rest}
-use Rattle.walk.specs.Window.{head_of, shown_columns, TailIs, Shows}
+use Rattle.walk.specs.Window.{guard_of, head_of, shown_columns, TailIs, Shows}
 use Rattle.remnant.specs.Digits.{ShowsDigits}
 use Rattle.remnant.specs.Rest.{RestOf, Marks, RestAt, Settled, high_of}
 use Rattle.walk.proofs.Tails.{column_weight}
@@ -113,7 +114,7 @@ rest_none p D x h e f m =
 -- ---- of what a window shows
 
 -- with a guard there are more digits than the target has
-pub guarded_digits : (w : Window) (target : List ℕ) (k D : ℕ) (s : Shows w target k D) → w.guarded ≡ true → 64 * length target + 64 * s.below < size D
+pub guarded_digits : (w : Window) (target : List ℕ) (k D : ℕ) (s : Shows w target k D) → is_some w.guard ≡ true → 64 * length target + 64 * s.below < size D
 guarded_digits w target k D s g =
     let o = tailed_shows w target k D s g in
     let z : ℕ = 64 * length target + 64 * s.below in
@@ -124,9 +125,9 @@ guarded_digits w target k D s g =
 module _ (w : Window) (target : List ℕ) (p digits : ℕ) (ds : ShowsDigits w target digits) (hp : p ≤ 64 * length target) (k D : ℕ) (s : Shows w target k D) where
   -- as many digits as are kept, or fewer, are all that there are
   few_digits : digits ≤ p → digits ≡ size D
-  few_digits h = go w.guarded refl
+  few_digits h = go (is_some w.guard) refl
     where
-      go : (b : Bool) → w.guarded ≡ b → digits ≡ size D
+      go : (b : Bool) → is_some w.guard ≡ b → digits ≡ size D
       go true g = absurd (omega (arith, guarded_digits w target k D s g, ds.exact k D s))
       go false g = omega (arith, ds.exact k D s, (whole_shows w target k D s g).below)
 
@@ -137,7 +138,7 @@ module _ (w : Window) (target : List ℕ) (p digits : ℕ) (ds : ShowsDigits w t
   shown_none x h e f m = rest_none p D x (omega (arith, few_digits (omega arith))) e f m
 
   -- without a guard the target is full, and the rest stands in its lowest limb
-  pub shown_open : (x : Rest) → w.guarded ≡ false → 64 * length target < p + 64 → p < digits → RestAt (high_of w target * 2 ^ 64 + get_or target 0 0) (digits - p) x → RestOf p D x
+  pub shown_open : (x : Rest) → is_some w.guard ≡ false → 64 * length target < p + 64 → p < digits → RestAt (high_of w target * 2 ^ 64 + get_or target 0 0) (digits - p) x → RestOf p D x
   unfolding bit
   shown_open x g near h r =
       let o = whole_shows w target k D s g in
@@ -148,7 +149,7 @@ module _ (w : Window) (target : List ℕ) (p digits : ℕ) (ds : ShowsDigits w t
       rest_at_of p D (digits - p) x (omega arith) (omega arith) (subst (λ (y : ℕ). RestAt y (digits - p) x) value r)
 
   -- with one, it is what stands above the tail, and the tail
-  pub shown_guarded : (x : Rest) → w.guarded ≡ true → p < digits → RestAt ((head_of w target * 2 ^ 64 + w.guard) * 2 ^ (64 * s.below) + s.rest) (digits - p + 64 * s.below) x → RestOf p D x
+  pub shown_guarded : (x : Rest) → is_some w.guard ≡ true → p < digits → RestAt ((head_of w target * 2 ^ 64 + guard_of w) * 2 ^ (64 * s.below) + s.rest) (digits - p + 64 * s.below) x → RestOf p D x
   shown_guarded x g h r =
       let o = tailed_shows w target k D s g in
       let all : digits + 64 * s.below ≡ size D = ds.exact k D s in
@@ -157,17 +158,17 @@ module _ (w : Window) (target : List ℕ) (p digits : ℕ) (ds : ShowsDigits w t
 -- ---- a mixed tail settles every case
 
 pub mixed_settles : (w : Window) (target : List ℕ) (p k D : ℕ) (x : Rest) → Shows w target k D → w.tail ≡ Mixed → p ≤ 64 * length target → RestOf p D x → Settled x
-mixed_settles w target p k D x s mixed hp r = go w.guarded refl
+mixed_settles w target p k D x s mixed hp r = go (is_some w.guard) refl
   where
-    go : (b : Bool) → w.guarded ≡ b → Settled x
-    go false g = absurd (let e : w.tail ≡ Empty = (s.fits.untailed g).0 in let z : ◌≡◌ {A = ℕ} 0 1 = cc in omega arith)
+    go : (b : Bool) → is_some w.guard ≡ b → Settled x
+    go false g = absurd (let e : w.tail ≡ Empty = s.fits.untailed g in let z : ◌≡◌ {A = ℕ} 0 1 = cc in omega arith)
     go true g =
         let o = tailed_shows w target k D s g in
         let t : ℕ = s.below in
         let M : ℕ = 2 ^ (64 * t) in
         let is : TailIs Mixed t s.rest = rw mixed at s.tail in
         let many = guarded_digits w target k D s g in
-        let n : ℕ = head_of w target * 2 ^ 64 + w.guard in
+        let n : ℕ = head_of w target * 2 ^ 64 + guard_of w in
         let d : ℕ = size D - p - 64 * t in
         let h : ℕ = 2 ^ (d - 1) in
         let q : ℕ = n % 2 ^ d in

@@ -2,7 +2,7 @@
 use mathlib.Core.Path.{◌≡◌, refl, sym, ap, ◌∙◌}
 use mathlib.Core.Bool.{Bool, true, false, ◌&&◌}
 use mathlib.Core.List.{List, []}
-use Prim.Native.Nat.{ℕ, suc, ◌+◌, ◌-◌, ◌*◌, ◌/◌, ◌%◌, ◌^◌, ◌≤◌, ◌<◌}
+use Prim.Native.Nat.{ℕ, suc, min, ◌+◌, ◌-◌, ◌*◌, ◌/◌, ◌%◌, ◌^◌, ◌≤◌, ◌<◌}
 use native.Mathlib.Decide.{dec_le}
 use native.Mathlib.Nat.{lt_of_not-le, div-one, add-mul-div_left, div-eq_of_lt}
 use native.Mathlib.Numerals.{add-one}
@@ -10,17 +10,18 @@ use native.Mathlib.Omega.{arith}
 use lib.Dec.{eqb}
 use lib.Ieee.{size}
 use lib.Ieee.Digits.{size-lt}
-use lib.ListN.{length, drop, get_or, drop_of_length-le}
+use lib.ListN.{length, take, drop, get_or, length-take, length-drop, drop_of_length-le}
 use lib.Pow.{pow-add, pow_pos, pow_mono, shr-shr, shr_lt}
-use lib.Seq.{drop-drop, get_or-drop}
+use lib.Seq.{drop-drop, get_or-drop, get_or-take}
 use borrow.Author.Tests.{eq-eqb, ne_eqb}
+use Rattle.std.specs.Option.{is_some}
 use Rattle.limb.proofs.Powers.{one_moved}
 use Rattle.limb.specs.Value.{value_of, Below}
 use Rattle.limb.specs.Carry.{bit}
 use Rattle.limb.proofs.Carry.{bit_le}
 use Rattle.limb.proofs.Value.{value_nil, value_drop, value_shr, base_pow}
 use Rattle.walk.specs.declared.state.Window.{Window}
-use Rattle.walk.specs.Window.{head_of, shown_of, shown_columns, Shows}
+use Rattle.walk.specs.Window.{guard_of, head_of, shown_of, shown_columns, Shows}
 use Rattle.remnant.specs.Digits.{ShowsDigits}
 use Rattle.remnant.specs.Ones.{OnesFirst}
 use Rattle.walk.proofs.Showing.{shown_open, shown_guarded}
@@ -91,6 +92,39 @@ module _ (target : List ℕ) (i : ℕ) where
     pub ones_stop : (get_or target i 0 ≡ 18446744073709551615 → ⊥) → false ≡ eqb (suc (value_of (drop i target))) (2 ^ count)
     ones_stop ne = ones_not b 0 count (omega arith) many (ne_eqb (suc (get_or target i 0 / 2 ^ 0)) (2 ^ (64 - 0)) (λ q. ne (omega (arith, q, div-one (get_or target i 0))))) ∙ whole_limb
 
+-- ---- a part of the limbs, one limb after another
+
+part_item : (n from i : ℕ) (target : List ℕ) → i < length (take n (drop from target)) → (i < n) × (get_or (take n (drop from target)) i 0 ≡ get_or target (from + i) 0)
+part_item n from i target h =
+    let l : i < n = omega (arith, length-take n (drop from target)) in
+    (l, get_or-take n (drop from target) i 0 l ∙ get_or-drop from target i 0)
+
+pub ones_begin : (target : List ℕ) (from count : ℕ) → eqb (suc (value_of (drop (from + 0) target))) (2 ^ (count - 0)) ≡ eqb (suc (value_of (drop from target))) (2 ^ count)
+ones_begin target from count = let a : from + 0 ≡ from = omega arith in let b : count - 0 ≡ count = omega arith in rw (a, b) refl
+
+module _ (target : List ℕ) (b : Below (2 ^ 64) target) (from count i : ℕ) (l : i < length (take (from + count / 64 - from) (drop from target))) where
+  part_within : 64 ≤ count - 64 * i
+  part_within = let h = (part_item (from + count / 64 - from) from i target l).0 in omega arith
+
+  pub part_passes : get_or (take (from + count / 64 - from) (drop from target)) i 0 ≡ 18446744073709551615
+      → eqb (suc (value_of (drop (from + (i + 1)) target))) (2 ^ (count - 64 * (i + 1))) ≡ eqb (suc (value_of (drop (from + i) target))) (2 ^ (count - 64 * i))
+  part_passes e =
+      let at : from + (i + 1) ≡ from + i + 1 = omega arith in
+      let left : count - 64 * (i + 1) ≡ count - 64 * i - 64 = omega arith in
+      rw (at, left) (ones_pass target (from + i) b (count - 64 * i) part_within (sym (part_item (from + count / 64 - from) from i target l).1 ∙ e))
+
+  pub part_stops : (get_or (take (from + count / 64 - from) (drop from target)) i 0 ≡ 18446744073709551615 → ⊥) → false ≡ eqb (suc (value_of (drop (from + i) target))) (2 ^ (count - 64 * i))
+  part_stops ne = ones_stop target (from + i) b (count - 64 * i) part_within (λ e. ne ((part_item (from + count / 64 - from) from i target l).1 ∙ e))
+
+-- what is left is the top limb, or none
+pub part_ends : (target : List ℕ) (from count i limb : ℕ) → count ≤ 64 * (length target - from) → 64 * (length target - from) < count + 64 → i ≡ length (take (from + count / 64 - from) (drop from target))
+    → limb ≡ get_or target (from + count / 64) 0 → eqb (suc (limb / 2 ^ 0)) (2 ^ (count % 64)) ≡ eqb (suc (value_of (drop (from + i) target))) (2 ^ (count - 64 * i))
+part_ends target from count i limb most least h e =
+    let n : i ≡ count / 64 = h ∙ length-take (from + count / 64 - from) (drop from target) ∙ ap (min (from + count / 64 - from)) (length-drop from target) ∙ omega arith in
+    let left : count - 64 * i ≡ count % 64 = omega arith in
+    let at : from + i ≡ from + count / 64 = omega arith in
+    rw (left, at) (ap (λ (m : ℕ). eqb (suc m) (2 ^ (count % 64))) (div-one limb ∙ e ∙ sym (last_limb target (from + count / 64) (omega arith))))
+
 -- ---- what a window shows
 
 carried_ones : (v Q R d : ℕ) → d ≡ v + Q → R ≡ 2 * Q → eqb (suc v) Q ≡ eqb (suc d) R
@@ -147,14 +181,14 @@ module _ (w : Window) (target : List ℕ) (count digits : ℕ) (ds : ShowsDigits
       let e : size D - count ≡ size D = omega arith in
       rw (e, z, div-eq_of_lt (size-lt D)) refl
 
-  module _ (b : Below (2 ^ 64) target) (inside : ℕ) (sum : digits ≡ inside + bit w.carry + 64 * bit w.guarded) where
+  module _ (b : Below (2 ^ 64) target) (inside : ℕ) (sum : digits ≡ inside + bit w.carry + 64 * bit (is_some w.guard)) where
     full_limbs : w.carry ≡ true → inside ≡ 64 * w.filled
     unfolding bit
-    full_limbs c = let e : digits ≡ inside + 1 + 64 * bit w.guarded = rw c at sum in omega (arith, ds.carried c)
+    full_limbs c = let e : digits ≡ inside + 1 + 64 * bit (is_some w.guard) = rw c at sum in omega (arith, ds.carried c)
 
     -- the last digit stands in the guard
-    pub ones_guard : w.guarded ≡ true → w.guard < 2 ^ 64 → count ≤ digits → digits - count < 64
-        → eqb (suc (value_of (drop (length target - w.filled) target))) (2 ^ inside) && eqb (suc (w.guard / 2 ^ (digits - count))) (2 ^ (64 - (digits - count)))
+    pub ones_guard : is_some w.guard ≡ true → guard_of w < 2 ^ 64 → count ≤ digits → digits - count < 64
+        → eqb (suc (value_of (drop (length target - w.filled) target))) (2 ^ inside) && eqb (suc (guard_of w / 2 ^ (digits - count))) (2 ^ (64 - (digits - count)))
         ≡ eqb (suc (shown_of w target / 2 ^ (digits - count))) (2 ^ count)
     unfolding bit
     ones_guard g x few l =
@@ -167,14 +201,14 @@ module _ (w : Window) (target : List ℕ) (count digits : ℕ) (ds : ShowsDigits
         let head : eqb (suc v) (2 ^ inside) ≡ eqb (suc H) (2 ^ (inside + bit w.carry)) =
         ap (λ (n : ℕ). eqb (suc n) (2 ^ inside)) (sym (div-one v)) ∙ ap (λ (n : ℕ). eqb (suc (v / 2 ^ 0)) (2 ^ n)) (sym n0) ∙ head_ones w target b 0 inside (omega arith) full_limbs
         ∙ ap (λ (n : ℕ). eqb (suc (H / 2 ^ 0)) (2 ^ n)) n1 ∙ ap (λ (n : ℕ). eqb (suc n) (2 ^ (inside + bit w.carry))) (div-one H) in
-        let low : w.guard / 2 ^ q < 2 ^ (64 - q) = shr_lt (64 - q) q (let e : 64 - q + q ≡ 64 = omega arith in rw e x) in
-        let shown : H * 2 ^ (64 - q) + w.guard / 2 ^ q ≡ shown_of w target / 2 ^ q = sym (ap (λ (n : ℕ). n / 2 ^ q) (shown_guarded w target g) ∙ word_high H w.guard q (omega arith) ∙ omega arith) in
+        let low : guard_of w / 2 ^ q < 2 ^ (64 - q) = shr_lt (64 - q) q (let e : 64 - q + q ≡ 64 = omega arith in rw e x) in
+        let shown : H * 2 ^ (64 - q) + guard_of w / 2 ^ q ≡ shown_of w target / 2 ^ q = sym (ap (λ (n : ℕ). n / 2 ^ q) (shown_guarded w target g) ∙ word_high H (guard_of w) q (omega arith) ∙ omega arith) in
         let weight : 2 ^ (inside + bit w.carry) * 2 ^ (64 - q) ≡ 2 ^ count = sym (pow-add 2 (inside + bit w.carry) (64 - q)) ∙ ap (λ (n : ℕ). 2 ^ n) (omega arith) in
-        ap (λ (p : Bool). p && eqb (suc (w.guard / 2 ^ q)) (2 ^ (64 - q))) head ∙ ones_joined H (2 ^ (inside + bit w.carry)) (2 ^ (64 - q)) (w.guard / 2 ^ q) low
+        ap (λ (p : Bool). p && eqb (suc (guard_of w / 2 ^ q)) (2 ^ (64 - q))) head ∙ ones_joined H (2 ^ (inside + bit w.carry)) (2 ^ (64 - q)) (guard_of w / 2 ^ q) low
         ∙ ap (λ (n : ℕ). eqb (suc n) (2 ^ (inside + bit w.carry) * 2 ^ (64 - q))) shown ∙ ap (λ (n : ℕ). eqb (suc (shown_of w target / 2 ^ q)) n) weight
 
     -- it stands in a limb, or in the carry: `place` digits of the limbs are below it
-    pub ones_limbs : (place : ℕ) → w.guard < 2 ^ 64 → count ≤ digits → 0 < count → digits - count ≡ place + 64 * bit w.guarded
+    pub ones_limbs : (place : ℕ) → guard_of w < 2 ^ 64 → count ≤ digits → 0 < count → digits - count ≡ place + 64 * bit (is_some w.guard)
         → eqb (suc (value_of (drop (length target - w.filled + place / 64) target) / 2 ^ (place % 64))) (2 ^ (inside - 64 * (place / 64) - place % 64))
         ≡ eqb (suc (shown_of w target / 2 ^ (digits - count))) (2 ^ count)
     unfolding bit
@@ -189,15 +223,15 @@ module _ (w : Window) (target : List ℕ) (count digits : ℕ) (ds : ShowsDigits
         let n1 : inside + bit w.carry - place ≡ count = omega arith in
         ap (λ (n : ℕ). eqb (suc n) (2 ^ (inside - 64 * (place / 64) - place % 64))) here ∙ ap (λ (n : ℕ). eqb (suc (v / 2 ^ place)) (2 ^ n)) n0
         ∙ head_ones w target b place inside (omega arith) full_limbs ∙ ap (λ (n : ℕ). eqb (suc (H / 2 ^ place)) (2 ^ n)) n1
-        ∙ ap (λ (n : ℕ). eqb (suc n) (2 ^ count)) (sym (go w.guarded refl))
+        ∙ ap (λ (n : ℕ). eqb (suc n) (2 ^ count)) (sym (go (is_some w.guard) refl))
       where
-        go : (p : Bool) → w.guarded ≡ p → shown_of w target / 2 ^ (digits - count) ≡ head_of w target / 2 ^ place
+        go : (p : Bool) → is_some w.guard ≡ p → shown_of w target / 2 ^ (digits - count) ≡ head_of w target / 2 ^ place
         go false g =
             let y : digits - count ≡ place = (rw g at e) ∙ omega arith in
             rw (y, shown_open w target g) refl
         go true g =
             let y : digits - count ≡ place + 64 = (rw g at e) ∙ omega arith in
-            rw (y, shown_guarded w target g) (kept_longer (head_of w target) place 64 w.guard x)
+            rw (y, shown_guarded w target g) (kept_longer (head_of w target) place 64 (guard_of w) x)
 
 -- ---- every limb filled but the first has all its digits
 
@@ -207,21 +241,21 @@ guarded_from true n h = refl
 guarded_from false n h = absurd (omega arith)
 
 module _ (w : Window) (target : List ℕ) (k D : ℕ) (s : Shows w target k D) where
-  many_digits : 0 < w.filled → 64 * (w.filled + bit w.guarded + s.below - 1) < size D
+  many_digits : 0 < w.filled → 64 * (w.filled + bit (is_some w.guard) + s.below - 1) < size D
   unfolding shown_columns
   many_digits f =
-      let z : ℕ = 64 * (w.filled + bit w.guarded + s.below - 1) in
+      let z : ℕ = 64 * (w.filled + bit (is_some w.guard) + s.below - 1) in
       let more : 2 ^ z < D = s.leads f in
       lt_of_not-le (λ (h : size D ≤ z). omega (arith, size-lt D, pow_mono {i = size D} {j = z} h))
 
-  pub limbs_many : (digits inside : ℕ) → ShowsDigits w target digits → digits ≡ inside + bit w.carry + 64 * bit w.guarded → 64 * w.filled < inside + 64
+  pub limbs_many : (digits inside : ℕ) → ShowsDigits w target digits → digits ≡ inside + bit w.carry + 64 * bit (is_some w.guard) → 64 * w.filled < inside + 64
   unfolding bit
   limbs_many digits inside ds sum = go w.carry refl
     where
       go : (p : Bool) → w.carry ≡ p → 64 * w.filled < inside + 64
-      go true c = let e : digits ≡ inside + 1 + 64 * bit w.guarded = rw c at sum in omega (arith, ds.carried c)
+      go true c = let e : digits ≡ inside + 1 + 64 * bit (is_some w.guard) = rw c at sum in omega (arith, ds.carried c)
       go false c = elim (dec_le 1 w.filled) [
-        | yes f ↦ let e : digits ≡ inside + 0 + 64 * bit w.guarded = rw c at sum in omega (arith, many_digits f, ds.exact k D s)
+        | yes f ↦ let e : digits ≡ inside + 0 + 64 * bit (is_some w.guard) = rw c at sum in omega (arith, many_digits f, ds.exact k D s)
         | no f ↦ omega (arith, f)
       ]
 

@@ -10,13 +10,14 @@ use lib.Ieee.{size}
 use lib.ListN.{length, take, drop, get_or, length-drop}
 use lib.Pow.{pow-add, pow_pos}
 use lib.Seq.{drop-drop, drop-length}
+use Rattle.std.specs.Option.{is_some}
 use Rattle.limb.specs.Value.{value_of, Below}
 use Rattle.limb.specs.Carry.{bit}
 use Rattle.limb.proofs.Tests.{true_false}
 use Rattle.limb.proofs.Sizes.{size_is, size_zero, part_least, part_most, size_part}
 use Rattle.limb.proofs.Value.{value_nil, value_split, value_drop, value_lt, below_part, value_take_lt, base_pow}
 use Rattle.walk.specs.declared.state.Window.{Window}
-use Rattle.walk.specs.Window.{head_of, shown_columns, Fits, Shows}
+use Rattle.walk.specs.Window.{guard_of, head_of, shown_columns, Fits, Shows}
 use Rattle.remnant.specs.Digits.{ShowsDigits}
 use Rattle.walk.proofs.Tails.{column_weight}
 use Rattle.walk.proofs.Showing.{whole_shows, tailed_shows, unfilled_shows}
@@ -27,7 +28,7 @@ use Rattle.walk.proofs.Walking.{tail_lt}
 pub record BelowHead (w : Window) (target : List ℕ) (k D below : ℕ) : Type 0 where
   pub columns : ℕ
   pub rest : ℕ
-  pub count : columns ≡ bit w.guarded + below
+  pub count : columns ≡ bit (is_some w.guard) + below
   pub all : w.skipped + w.filled + columns ≡ k
   pub value : D ≡ head_of w target * 2 ^ (64 * columns) + rest
   pub small : rest < 2 ^ (64 * columns)
@@ -37,9 +38,9 @@ guard_split H x B M q = omega arith
 
 pub below_head : (w : Window) (target : List ℕ) (k D : ℕ) (s : Shows w target k D) → BelowHead w target k D s.below
 unfolding bit
-below_head w target k D s = go w.guarded refl
+below_head w target k D s = go (is_some w.guard) refl
   where
-    go : (p : Bool) → w.guarded ≡ p → BelowHead w target k D s.below
+    go : (p : Bool) → is_some w.guard ≡ p → BelowHead w target k D s.below
     go false g =
         let o = whole_shows w target k D s g in
         record { columns = 0; rest = 0; count = rw (g, o.below) refl; all = omega (arith, o.columns); value = omega (arith, o.value); small = omega arith }
@@ -49,11 +50,11 @@ below_head w target k D s = go w.guarded refl
         let M : ℕ = 2 ^ (64 * t) in
         record {
           columns = suc t;
-          rest = w.guard * M + s.rest;
+          rest = guard_of w * M + s.rest;
           count = rw g (omega arith);
           all = omega (arith, o.columns);
-          value = rw (column_weight t) (o.value ∙ guard_split (head_of w target) w.guard (2 ^ 64) M s.rest);
-          small = rw (column_weight t) (part_most w.guard (2 ^ 64) M s.rest s.fits.guard_fits (tail_lt w.tail t s.rest s.tail));
+          value = rw (column_weight t) (o.value ∙ guard_split (head_of w target) (guard_of w) (2 ^ 64) M s.rest);
+          small = rw (column_weight t) (part_most (guard_of w) (2 ^ 64) M s.rest s.fits.guard_fits (tail_lt w.tail t s.rest s.tail));
         }
 
 -- ---- the limbs filled
@@ -84,7 +85,7 @@ module _ (w : Window) (target : List ℕ) (b : Below (2 ^ 64) target) where
 
   module _ (k D : ℕ) (s : Shows w target k D) where
     -- a carry is the first digit
-    pub digits_carry : w.carry ≡ true → 64 * w.filled + 64 * bit w.guarded + 1 + 64 * s.below ≡ size D
+    pub digits_carry : w.carry ≡ true → 64 * w.filled + 64 * bit (is_some w.guard) + 1 + 64 * s.below ≡ size D
     digits_carry c =
         let o = below_head w target k D s in
         let h = head_carry s.fits.within c in
@@ -118,7 +119,7 @@ module _ (w : Window) (target : List ℕ) (b : Below (2 ^ 64) target) where
         let e : 64 * (shown_columns w + s.below - 1) ≡ 64 * p + 64 * o.columns = shown_place o p (omega arith) in
         omega (arith, most, s.leads f, ap (λ (n : ℕ). 2 ^ n) e ∙ pow-add 2 (64 * p) (64 * o.columns)))
 
-    pub digits_limb : w.carry ≡ false → 0 < w.filled → 64 * w.filled + 64 * bit w.guarded - count_leading_zeros 64 (get_or target (length target - 1) 0) + 64 * s.below ≡ size D
+    pub digits_limb : w.carry ≡ false → 0 < w.filled → 64 * w.filled + 64 * bit (is_some w.guard) - count_leading_zeros 64 (get_or target (length target - 1) 0) + 64 * s.below ≡ size D
     digits_limb c f =
         let o = below_head w target k D s in
         let p : ℕ = w.filled - 1 in
@@ -130,7 +131,7 @@ module _ (w : Window) (target : List ℕ) (b : Below (2 ^ 64) target) where
         let head : size (head_of w target) ≡ size x + 64 * p = ap size h.1 ∙ size_part x (64 * p) h.0 some h.2 in
         let more : 0 < head_of w target = omega (arith, h.1, part_least x 1 (2 ^ (64 * p)) some, pow_pos (64 * p)) in
         let all : size D ≡ size (head_of w target) + 64 * o.columns = ap size o.value ∙ size_part (head_of w target) (64 * o.columns) o.rest more o.small in
-        limb_count w.filled (bit w.guarded) (count_leading_zeros 64 x) s.below o.columns p t.0 (size D) (omega arith) o.count t.1 (omega (arith, all, head, first))
+        limb_count w.filled (bit (is_some w.guard)) (count_leading_zeros 64 x) s.below o.columns p t.0 (size D) (omega arith) o.count t.1 (omega (arith, all, head, first))
       where
         limb_count : (f g z t e p j d : ℕ) → f ≡ suc p → e ≡ g + t → z + suc j ≡ 64 → d ≡ suc j + 64 * p + 64 * e → 64 * f + 64 * g - z + 64 * t ≡ d
         limb_count f g z t e p j d ef ee ez ed = omega arith
@@ -138,20 +139,20 @@ module _ (w : Window) (target : List ℕ) (b : Below (2 ^ 64) target) where
 -- ---- how many digits there are at least and at most, whatever is shown
 
 module _ (w : Window) (target : List ℕ) (r : ℕ) where
-  pub with_carry : w.carry ≡ true → r ≡ 64 * w.filled + 64 * bit w.guarded + 1 → ((k D : ℕ) (s : Shows w target k D) → r + 64 * s.below ≡ size D) → ShowsDigits w target r
+  pub with_carry : w.carry ≡ true → r ≡ 64 * w.filled + 64 * bit (is_some w.guard) + 1 → ((k D : ℕ) (s : Shows w target k D) → r + 64 * s.below ≡ size D) → ShowsDigits w target r
   unfolding bit
   with_carry c e x = record { most = rw c (omega arith); least = rw c (omega arith); carried = λ y. e; exact = x }
 
-  pub without_carry : w.carry ≡ false → r ≤ 64 * w.filled + 64 * bit w.guarded → 64 * bit w.guarded ≤ r → ((k D : ℕ) (s : Shows w target k D) → r + 64 * s.below ≡ size D)
+  pub without_carry : w.carry ≡ false → r ≤ 64 * w.filled + 64 * bit (is_some w.guard) → 64 * bit (is_some w.guard) ≤ r → ((k D : ℕ) (s : Shows w target k D) → r + 64 * s.below ≡ size D)
       → ShowsDigits w target r
   unfolding bit
   without_carry c m l x = record { most = rw c (omega arith); least = rw c (omega arith); carried = λ y. absurd (true_false y c); exact = x }
 
   -- a guard stands below a full target
-  pub unfilled_unguarded : Fits w target → w.filled ≡ 0 → bit w.guarded ≡ 0
+  pub unfilled_unguarded : Fits w target → w.filled ≡ 0 → bit (is_some w.guard) ≡ 0
   unfolding bit
-  unfilled_unguarded f z = go w.guarded refl
+  unfilled_unguarded f z = go (is_some w.guard) refl
     where
-      go : (p : Bool) → w.guarded ≡ p → bit w.guarded ≡ 0
+      go : (p : Bool) → is_some w.guard ≡ p → bit (is_some w.guard) ≡ 0
       go true g = absurd (omega (arith, f.full g, f.limbs))
       go false g = rw g refl

@@ -1,5 +1,5 @@
 // How many digits a window shows.
-ghost use Rattle.std.specs.Prelude.{◌≡◌, ◌*◌, ◌^◌, ◌<◌, length};
+ghost use Rattle.std.specs.Prelude.{◌≡◌, ◌*◌, ◌^◌, ◌<◌, is_some, length};
 ghost use Rattle.limb.specs.Carry.{bit};
 ghost use Rattle.walk.specs.Window.{Fits};
 ghost use Rattle.remnant.specs.Digits.{ShowsDigits};
@@ -7,6 +7,7 @@ ghost use Rattle.remnant.specs.Digits.{ShowsDigits};
 use walk::Window;
 
 // The digit of the carry.
+#[tactic(auto, unfolding(limb::specs::Carry::bit))]
 pub fn carry_digits(w: Window) -> u64
     ensures { result ≡ bit w.carry }
 {
@@ -14,10 +15,14 @@ pub fn carry_digits(w: Window) -> u64
 }
 
 // The digits of the guard.
+#[tactic(auto, unfolding(limb::specs::Carry::bit))]
 pub fn guard_digits(w: Window) -> u64
-    ensures { result ≡ 64 * bit w.guarded }
+    ensures { result ≡ 64 * bit (is_some w.guard) }
 {
-    if w.guarded { 64 } else { 0 }
+    match w.guard {
+        Some(_) => 64,
+        None => 0,
+    }
 }
 
 // How many digits stand in carry, target and guard.

@@ -24,16 +24,13 @@ fn ones_from(target: &[u64], from: usize, count: u64) -> bool
     requires { (from ≤ length target.now) × (count ≤ 64 * (length target.now - from)) × (64 * (length target.now - from) < count + 64) }
     ensures { result ≡ eqb (suc (value_of (drop from target.now))) (2 ^ count) }
 {
-    let mut i = from;
-    let mut left = count;
-    while 64 <= left {
-        if target[i] != 18446744073709551615 {
+    let top = from + (count / 64) as usize;
+    for limb in &target[from..top] {
+        if *limb != 18446744073709551615 {
             return false;
         }
-        i += 1;
-        left -= 64;
     }
-    limb_ones(parts::limb_at(target, i), 0, left)
+    limb_ones(parts::limb_at(target, top), 0, count % 64)
 }
 
 // The same of the limbs from a place on without the lowest `skip` digits; `count` are there with them.
@@ -76,7 +73,7 @@ pub fn ones_first(w: Window, target: &[u64], count: u64) -> bool
         return false;
     }
     if low < below {
-        if !limb_ones(w.guard, low, 64 - low) {
+        if !limb_ones(w.guard.unwrap_or(0), low, 64 - low) {
             return false;
         }
         return ones_from(target, stop, inside);

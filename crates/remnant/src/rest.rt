@@ -146,12 +146,12 @@ pub fn rest_of(w: Window, target: &[u64], p: u64) -> Rest
     let drop = digits - p;
     let tail = w.tail;
     let low = target[0];
-    if !w.guarded {
+    let Some(guard) = w.guard else {
         return word_rest(low, drop, next_bit(w, target));
-    }
+    };
     if drop <= 64 {
-        return with_tail(word_rest(w.guard, drop, low % 2 == 1), tail);
+        return with_tail(word_rest(guard, drop, low % 2 == 1), tail);
     }
     let high = word_rest(low, drop - 64, next_bit(w, target));
-    with_tail(longer_rest(high, w.guard), tail)
+    with_tail(longer_rest(high, guard), tail)
 }

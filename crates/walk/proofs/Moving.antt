@@ -1,141 +1,149 @@
 -- Laws of a number changed by one: limb by limb, over any base B, and what one limb passes on. Assumes nothing.
-use mathlib.Core.Path.{◌≡◌, refl, sym, ap, ◌∙◌}
-use mathlib.Core.Bool.{Bool, true, false}
+use mathlib.Core.Path.{◌≡◌, refl, sym, ap, ◌∙◌, subst}
+use mathlib.Core.Bool.{Bool, true, false, not, beq}
 use mathlib.Core.List.{List}
 use Prim.Native.Nat.{ℕ, zero, suc, ◌+◌, ◌-◌, ◌*◌, ◌^◌, ◌≤◌, ◌<◌}
 use native.Mathlib.Nat.{pow-succ', one-le-pow, eq_of_mul-eq-mul_left}
 use native.Mathlib.Numerals.{add-one}
 use native.Mathlib.Omega.{arith}
-use lib.ListN.{length, take, drop, get_or, set, length-drop}
+use lib.ListN.{length, take, drop, get_or, set, length-drop, length-set}
+use borrow.Rule.Slice.PartMut.{put_mid, same_len_mid, take_put}
+use Rattle.parts.proofs.Parts.{part_is, put_value}
 use Rattle.limb.proofs.Powers.{pow_split}
 use Rattle.limb.specs.Value.{value_in, Below}
 use Rattle.limb.specs.Carry.{bit}
 use Rattle.limb.proofs.Value.{value_set, value_split, value_lt, below_part, value_kept}
-use Rattle.walk.specs.declared.change.Change.TheVariants.{Stay, Rise, Fall}
-use Rattle.walk.specs.Change.{Risen, Fallen, part_of, ChangedAt, PassesLimb}
+use Rattle.walk.specs.declared.change.Change.TheVariants.{Rise, Fall}
+use Rattle.walk.specs.declared.change.Change.{Change}
+use Rattle.std.specs.Prelude.{Some, None}
+use Rattle.std.specs.Bool.{then_some}
+use Rattle.walk.specs.Change.{Moved, Balanced, ChangedFrom, part_of, ChangedAt, PassesLimb}
 
 -- ---- one more limb, at i
 
-module _ (B : ℕ) (t : List ℕ) (i : ℕ) (within : i < length t) where
-  -- a limb of all ones becomes 0 and passes the carry on
-  pub rise_passes : (n : ℕ) → suc (get_or t i 0) ≡ B → value_in B t + B ^ i ≡ n → value_in B (set t i 0) + B ^ (i + 1) ≡ n
-  rise_passes n g e = rw (add-one i) (omega (arith, value_set B t i 0 within, pow-succ' B i, ap (λ (m : ℕ). B ^ i * m) g))
+-- limb i, due or lent a one, becomes x, and what goes out of it is due or lent above
+pub limb_changes : (change : Change) (B : ℕ) (t : List ℕ) (i : ℕ) (u n x out : ℕ) → i < length t → Balanced change u (value_in B t) n (B ^ i) → Balanced change 1 x (get_or t i 0) (B * out)
+    → Balanced change u (value_in B (set t i x)) n (B ^ (i + 1) * out)
+limb_changes Rise B t i u n x out within e f =
+    rw (add-one i, pow-succ' B i) (omega (arith, value_set B t i x within, ap (λ (m : ℕ). B ^ i * m) f))
+limb_changes Fall B t i u n x out within e f =
+    rw (add-one i, pow-succ' B i) (omega (arith, value_set B t i x within, ap (λ (m : ℕ). B ^ i * m) f))
 
-  -- any other takes it
-  pub rise_ends : (n : ℕ) → value_in B t + B ^ i ≡ n → value_in B (set t i (get_or t i 0 + 1)) ≡ n
-  rise_ends n e = omega (arith, value_set B t i (get_or t i 0 + 1) within)
-
-  -- a limb of zeros becomes all ones and passes the borrow on
-  pub fall_passes : (n c v : ℕ) → get_or t i 0 ≡ 0 → suc v ≡ B → value_in B t + c ≡ n + B ^ i → value_in B (set t i v) + c ≡ n + B ^ (i + 1)
-  fall_passes n c v z g e =
-      rw (add-one i) (omega (arith, value_set B t i v within, pow-succ' B i, ap (λ (m : ℕ). B ^ i * m) g, ap (λ (m : ℕ). B ^ i * m) z))
-
-  -- any other gives it
-  pub fall_ends : (n c v : ℕ) → suc v ≡ get_or t i 0 → value_in B t + c ≡ n + B ^ i → value_in B (set t i v) + c ≡ n
-  fall_ends n c v g e = omega (arith, value_set B t i v within, ap (λ (m : ℕ). B ^ i * m) g)
+-- a number that nothing is changed in owes what it was to be changed by
+pub change_due : (change : Change) (n u : ℕ) → Balanced change u n n u
+change_due Rise n u = refl
+change_due Fall n u = refl
 
 -- ---- the part of a run from a place on
 
+-- and the other way
+part_in_whole : (change : Change) (P Q l a b after before top out : ℕ) → after ≡ l + P * a → before ≡ l + P * b → top ≡ P * Q → Balanced change 1 a b (Q * out)
+    → Balanced change P after before (top * out)
+part_in_whole Rise P Q l a b after before top out ea eb et e = omega (arith, ap (λ (m : ℕ). m * out) et, ap (λ (m : ℕ). P * m) e)
+part_in_whole Fall P Q l a b after before top out ea eb et e = omega (arith, ap (λ (m : ℕ). m * out) et, ap (λ (m : ℕ). P * m) e)
+
 -- of the whole: l is what stays below, P the weight of the place, a and b the part after and before, Q the weight of its top
-part_risen : (P Q l a b after before top out : ℕ) → 0 < P → after ≡ l + P * a → before ≡ l + P * b → top ≡ P * Q → after + top * out ≡ before + P
-    → a + Q * out ≡ suc b
-part_risen P Q l a b after before top out p ea eb et e =
-    eq_of_mul-eq-mul_left P p (a + Q * out) (suc b) (omega (arith, ap (λ (m : ℕ). m * out) et))
+part_changes : (change : Change) (P Q l a b after before top out : ℕ) → 0 < P → after ≡ l + P * a → before ≡ l + P * b → top ≡ P * Q → Balanced change P after before (top * out)
+    → Balanced change 1 a b (Q * out)
+part_changes Rise P Q l a b after before top out p ea eb et e =
+    eq_of_mul-eq-mul_left P p (a + Q * out) (b + 1) (omega (arith, ap (λ (m : ℕ). m * out) et))
+part_changes Fall P Q l a b after before top out p ea eb et e =
+    eq_of_mul-eq-mul_left P p (a + 1) (b + Q * out) (omega (arith, ap (λ (m : ℕ). m * out) et))
 
-part_fallen : (P Q l a b after before top out : ℕ) → 0 < P → after ≡ l + P * a → before ≡ l + P * b → top ≡ P * Q → after + P ≡ before + top * out
-    → suc a ≡ b + Q * out
-part_fallen P Q l a b after before top out p ea eb et e =
-    eq_of_mul-eq-mul_left P p (suc a) (b + Q * out) (omega (arith, ap (λ (m : ℕ). m * out) et))
+-- with the carry above the part: what goes out turns it, a carry where it was 0 and a borrow where it was 1
+carry_turns : (change : Change) (Q a b m : ℕ) (carry out : Bool) → m < 2 * Q → a < Q → Balanced change 1 a b (Q * bit out) → Moved (Some change) (bit carry * Q + b) m
+    → bit (not (beq carry out)) * Q + a ≡ m
+unfolding bit
+carry_turns Rise Q a b m true true s l e f = absurd (omega arith)
+carry_turns Rise Q a b m true false s l e f = omega arith
+carry_turns Rise Q a b m false true s l e f = omega arith
+carry_turns Rise Q a b m false false s l e f = omega arith
+carry_turns Fall Q a b m true true s l e f = omega arith
+carry_turns Fall Q a b m true false s l e f = omega arith
+carry_turns Fall Q a b m false true s l e f = absurd (omega arith)
+carry_turns Fall Q a b m false false s l e f = omega arith
 
--- with the carry above the part
-module _ (Q a b m : ℕ) (small : m < 2 * Q) where
-  risen_carry : (carry : Bool) → a + Q * 1 ≡ suc b → m ≡ suc (bit carry * Q + b) → 1 * Q + a ≡ m
-  unfolding bit
-  risen_carry true e f = absurd (omega arith)
-  risen_carry false e f = omega arith
-
-  risen_stays : (carry : Bool) → a + Q * 0 ≡ suc b → m ≡ suc (bit carry * Q + b) → bit carry * Q + a ≡ m
-  risen_stays carry e f = omega arith
-
-  fallen_carry : (carry : Bool) → a < Q → suc a ≡ b + Q * 1 → suc m ≡ bit carry * Q + b → 0 * Q + a ≡ m
-  unfolding bit
-  fallen_carry true h e f = omega arith
-  fallen_carry false h e f = absurd (omega arith)
-
-  fallen_stays : (carry : Bool) → suc a ≡ b + Q * 0 → suc m ≡ bit carry * Q + b → bit carry * Q + a ≡ m
-  fallen_stays carry e f = omega arith
-
-module _ (from : ℕ) (before after : List ℕ) (fits : from ≤ length before) (same : length after ≡ length before) where
+module _ (change : Change) (from : ℕ) (before after : List ℕ) (fits : from ≤ length before) (limbs : Below (2 ^ 64) after) (out : Bool) (r : ChangedFrom change from before after out) where
   abbrev B : ℕ
   B = 2 ^ 64
 
-  weight_pos : 0 < B ^ from
-  weight_pos = one-le-pow from B (omega arith)
+  part_lt : value_in B (drop from after) < B ^ (length before - from)
+  part_lt =
+      let e : length (drop from after) ≡ length before - from = length-drop from after ∙ ap (λ (m : ℕ). m - from) r.same_length in
+      rw e at (value_lt B (drop from after) (below_part B from after limbs))
 
-  part_lt : Below B after → value_in B (drop from after) < B ^ (length before - from)
-  part_lt h =
-      let e : length (drop from after) ≡ length before - from = length-drop from after ∙ ap (λ (m : ℕ). m - from) same in
-      rw e at (value_lt B (drop from after) (below_part B from after h))
+  part_changed : Balanced change 1 (value_in B (drop from after)) (value_in B (drop from before)) (B ^ (length before - from) * bit out)
+  part_changed =
+      part_changes change (B ^ from) (B ^ (length before - from)) (value_in B (take from before)) (value_in B (drop from after)) (value_in B (drop from before))
+      (value_in B after) (value_in B before) (B ^ length before) (bit out) (one-le-pow from B (omega arith)) (value_kept B from before after r.below) (value_split B from before)
+      (pow_split B from (length before) fits) r.value
 
-  risen_part : (out : Bool) → Risen from before after out
-      → value_in B (drop from after) + B ^ (length before - from) * bit out ≡ suc (value_in B (drop from before))
-  risen_part out r =
-      part_risen (B ^ from) (B ^ (length before - from)) (value_in B (take from before)) (value_in B (drop from after)) (value_in B (drop from before))
-      (value_in B after) (value_in B before) (B ^ length before) (bit out) weight_pos (value_kept B from before after r.below) (value_split B from before) (pow_split B from (length before) fits) r.value
-
-  fallen_part : (out : Bool) → Fallen from before after out
-      → suc (value_in B (drop from after)) ≡ value_in B (drop from before) + B ^ (length before - from) * bit out
-  fallen_part out r =
-      part_fallen (B ^ from) (B ^ (length before - from)) (value_in B (take from before)) (value_in B (drop from after)) (value_in B (drop from before))
-      (value_in B after) (value_in B before) (B ^ length before) (bit out) weight_pos (value_kept B from before after r.below) (value_split B from before) (pow_split B from (length before) fits) r.value
-
-  -- a carry that comes out is the carry above, which was 0; else that stays as it was
-  pub risen_out : (carry : Bool) → Risen from before after true → ChangedAt Rise from carry before after true
+  pub carry_changed : (carry : Bool) → ChangedAt (Some change) from carry before after (not (beq carry out))
   unfolding part_of bit
-  risen_out carry r = record {
+  carry_changed carry = record {
     same_length = r.same_length;
-    value = λ m f small. rw same (risen_carry (B ^ (length before - from)) (value_in B (drop from after)) (value_in B (drop from before)) m small carry (risen_part true r) f);
+    value = λ m f small. rw r.same_length
+        (carry_turns change (B ^ (length before - from)) (value_in B (drop from after)) (value_in B (drop from before)) m carry out small part_lt part_changed f);
   }
 
-  pub risen_kept : (carry : Bool) → Risen from before after false → ChangedAt Rise from carry before after carry
-  unfolding part_of bit
-  risen_kept carry r = record {
-    same_length = r.same_length;
-    value = λ m f small. rw same (risen_stays (B ^ (length before - from)) (value_in B (drop from after)) (value_in B (drop from before)) m small carry (risen_part false r) f);
-  }
+-- a run whose part from limb `from` on is changed by one
+pub run_changed : (change : Change) (from : ℕ) (before part : List ℕ) (out : Bool) → from ≤ length before → length part ≡ length (drop from before)
+    → Balanced change 1 (value_in (2 ^ 64) part) (value_in (2 ^ 64) (drop from before)) ((2 ^ 64) ^ length (drop from before) * bit out)
+    → ChangedFrom change from before (put_mid from (length before - from) before part) out
+run_changed change from before part out fits same e =
+    let B : ℕ = 2 ^ 64 in
+    let size : length (drop from before) ≡ length before - from = length-drop from before in
+    record {
+      same_length = same_len_mid from (length before - from) before part (same ∙ sym (ap length (part_is before from)));
+      below = take_put from (length before - from) before part fits;
+      value = part_in_whole change (B ^ from) (B ^ length (drop from before)) (value_in B (take from before)) (value_in B part) (value_in B (drop from before))
+          (value_in B (put_mid from (length before - from) before part)) (value_in B before) (B ^ length before) (bit out) (put_value before part from fits B) (value_split B from before)
+          (pow_split B from (length before) fits ∙ ap (λ (n : ℕ). B ^ from * B ^ n) (sym size)) e;
+    }
 
-  -- a borrow that comes out takes the carry above, which was 1
-  pub fallen_out : (carry : Bool) → Below B after → Fallen from before after true → ChangedAt Fall from carry before after false
-  unfolding part_of bit
-  fallen_out carry h r = record {
-    same_length = r.same_length;
-    value = λ m f small. rw same (fallen_carry (B ^ (length before - from)) (value_in B (drop from after)) (value_in B (drop from before)) m small carry (part_lt h) (fallen_part true r) f);
-  }
+-- the part, once limb i holds the change, or passes it on over the top
+pub part_holds : (change : Change) (from : ℕ) (before part : List ℕ) (i x : ℕ) → from ≤ length before → i < length part → length part ≡ length (drop from before)
+    → Balanced change 1 (value_in (2 ^ 64) part) (value_in (2 ^ 64) (drop from before)) ((2 ^ 64) ^ i) → Balanced change 1 x (get_or part i 0) (2 ^ 64 * bit false)
+    → ChangedFrom change from before (put_mid from (length before - from) before (set part i x)) false
+unfolding bit
+part_holds change from before part i x fits within same e f =
+    run_changed change from before (set part i x) false fits (length-set part i x ∙ same)
+    (subst (λ (n : ℕ). Balanced change 1 (value_in (2 ^ 64) (set part i x)) (value_in (2 ^ 64) (drop from before)) n) (omega arith) (limb_changes change (2 ^ 64) part i 1 (value_in (2 ^ 64) (drop from before)) x 0 within e f))
 
-  pub fallen_kept : (carry : Bool) → Fallen from before after false → ChangedAt Fall from carry before after carry
-  unfolding part_of bit
-  fallen_kept carry r = record {
-    same_length = r.same_length;
-    value = λ m f small. rw same (fallen_stays (B ^ (length before - from)) (value_in B (drop from after)) (value_in B (drop from before)) m small carry (fallen_part false r) f);
-  }
+pub part_passes : (change : Change) (from : ℕ) (before part : List ℕ) (i : ℕ) → from ≤ length before → length part ≤ i → i ≤ length part → length part ≡ length (drop from before)
+    → Balanced change 1 (value_in (2 ^ 64) part) (value_in (2 ^ 64) (drop from before)) ((2 ^ 64) ^ i)
+    → ChangedFrom change from before (put_mid from (length before - from) before part) true
+unfolding bit
+part_passes change from before part i fits past most same e =
+    let all : i ≡ length (drop from before) = omega arith in
+    run_changed change from before part true fits same
+    (subst (λ (n : ℕ). Balanced change 1 (value_in (2 ^ 64) part) (value_in (2 ^ 64) (drop from before)) n) (omega (arith, ap (λ (n : ℕ). (2 ^ 64) ^ n) all)) e)
 
-pub nothing_changed : (from : ℕ) (carry : Bool) (l : List ℕ) → ChangedAt Stay from carry l l carry
+-- a limb that passes it on
+pub limb_after : (change : Change) (B : ℕ) (t : List ℕ) (i n x : ℕ) (out : Bool) → i < length t → out ≡ true → Balanced change 1 (value_in B t) n (B ^ i) → Balanced change 1 x (get_or t i 0) (B * bit out)
+    → Balanced change 1 (value_in B (set t i x)) n (B ^ (i + 1))
+unfolding bit
+limb_after change B t i n x out within is e f =
+    subst (λ (w : ℕ). Balanced change 1 (value_in B (set t i x)) n w) (omega arith) (limb_changes change B t i 1 n x 1 within e (rw is at f))
+
+pub nothing_changed : (from : ℕ) (carry : Bool) (l : List ℕ) → ChangedAt None from carry l l carry
 nothing_changed from carry l = record { same_length = refl; value = λ m e small. sym e }
 
 -- ---- one limb
 
-pub limb_stays : (x : ℕ) → PassesLimb Stay x Stay x
+pub limb_stays : (x : ℕ) → PassesLimb None x None x
 limb_stays x h m e = (h, refl, e)
 
-pub limb_rises : (x : ℕ) → suc x ≡ 2 ^ 64 → PassesLimb Rise x Rise 0
-limb_rises x f h m e = (suc h, refl, omega arith)
+limb_passes : (change : Change) (x y : ℕ) → Balanced change 1 y x (2 ^ 64 * 1) → y < 2 ^ 64 → PassesLimb (Some change) x (Some change) y
+limb_passes Rise x y e l h m f = (suc h, refl, omega arith)
+limb_passes Fall x y e l zero m f = absurd (omega arith)
+limb_passes Fall x y e l (suc h) m f = (h, refl, omega arith)
 
-pub limb_takes : (x : ℕ) → PassesLimb Rise x Stay (x + 1)
-limb_takes x h m e = (h, refl, omega arith)
+limb_holds : (change : Change) (x y : ℕ) → Balanced change 1 y x (2 ^ 64 * 0) → PassesLimb (Some change) x None y
+limb_holds Rise x y e h m f = (h, refl, omega arith)
+limb_holds Fall x y e h m f = (h, refl, omega arith)
 
-pub limb_falls : (x y : ℕ) → x ≡ 0 → suc y ≡ 2 ^ 64 → PassesLimb Fall x Fall y
-limb_falls x y z f zero m e = absurd (omega arith)
-limb_falls x y z f (suc h) m e = (h, refl, omega arith)
-
-pub limb_gives : (x y : ℕ) → suc y ≡ x → PassesLimb Fall x Stay y
-limb_gives x y f h m e = (h, refl, omega arith)
+pub limb_changed : (change : Change) (x y : ℕ) (out : Bool) → y < 2 ^ 64 → Balanced change 1 y x (2 ^ 64 * bit out) → PassesLimb (Some change) x (then_some out change) y
+unfolding bit
+limb_changed change x y true l e = limb_passes change x y e l
+limb_changed change x y false l e = limb_holds change x y e

@@ -2,6 +2,8 @@
 use mathlib.Core.Path.{◌≡◌, refl, sym, ap, ◌∙◌, subst}
 use mathlib.Core.Bool.{Bool, true, false}
 use mathlib.Core.List.{List}
+use Rattle.std.specs.Prelude.{Option, Some, None}
+use Rattle.std.specs.Option.{is_some, unwrap_or}
 use Prim.Native.Nat.{ℕ, suc, ◌+◌, ◌-◌, ◌*◌, ◌^◌, ◌≤◌, ◌<◌}
 use native.Mathlib.Nat.{mul-le-mul_right, lt_of_not-le}
 use native.Mathlib.Numerals.{add-one}
@@ -17,30 +19,34 @@ use Rattle.walk.specs.declared.state.Tail.{Tail}
 use Rattle.walk.specs.declared.state.Tail.TheVariants.{Empty}
 use Rattle.walk.specs.declared.change.Change.{Change}
 use Rattle.walk.specs.Change.{Moved, part_of, ChangedAt, PassesLimb}
-use Rattle.walk.specs.Window.{head_of, shown_of, shown_columns, TailIs, Shows}
+use Rattle.walk.specs.Window.{guard_of, head_of, shown_of, shown_columns, TailIs, Shows}
 use Rattle.walk.specs.Tail.{Unmixed, PassesTail}
 use Rattle.walk.specs.Append.{Appended}
 use Rattle.walk.proofs.Tails.{column_weight}
 
-abbrev pub window_of : ℕ → Bool → ℕ → Bool → ℕ → Tail → Window
-window_of skipped carry filled guarded guard tail = record { skipped = skipped; carry = carry; filled = filled; guarded = guarded; guard = guard; tail = tail }
+abbrev pub window_of : ℕ → Bool → ℕ → Option ℕ → Tail → Window
+window_of skipped carry filled guard tail = record { skipped = skipped; carry = carry; filled = filled; guard = guard; tail = tail }
 
 -- ---- apart and together
 
+no_guard : (guard : Option ℕ) → is_some guard ≡ false → unwrap_or guard 0 ≡ 0
+no_guard None e = refl
+no_guard (Some g) e = absurd (let z : ◌≡◌ {A = ℕ} 0 1 = cc in omega arith)
+
 module _ (w : Window) (target : List ℕ) where
-  pub shown_open : w.guarded ≡ false → shown_of w target ≡ head_of w target
+  pub shown_open : is_some w.guard ≡ false → shown_of w target ≡ head_of w target
   unfolding shown_of
   shown_open g = rw g
 
-  pub shown_guarded : w.guarded ≡ true → shown_of w target ≡ head_of w target * 2 ^ 64 + w.guard
+  pub shown_guarded : is_some w.guard ≡ true → shown_of w target ≡ head_of w target * 2 ^ 64 + guard_of w
   unfolding shown_of
   shown_guarded g = rw g
 
-  pub columns_open : w.guarded ≡ false → shown_columns w ≡ w.filled
+  pub columns_open : is_some w.guard ≡ false → shown_columns w ≡ w.filled
   unfolding shown_columns bit
   columns_open g = rw g (omega arith)
 
-  pub columns_guarded : w.guarded ≡ true → shown_columns w ≡ w.filled + 1
+  pub columns_guarded : is_some w.guard ≡ true → shown_columns w ≡ w.filled + 1
   unfolding shown_columns bit
   columns_guarded g = rw g
 
@@ -55,36 +61,36 @@ module _ (w : Window) (target : List ℕ) where
     -- without a guard the window is all of D
     pub record Whole : Type 0 where
       pub tail : w.tail ≡ Empty
-      pub guard : w.guard ≡ 0
+      pub guard : guard_of w ≡ 0
       pub below : s.below ≡ 0
       pub rest : s.rest ≡ 0
       pub columns : w.skipped + w.filled ≡ k
       pub value : D ≡ head_of w target
 
-    pub whole_shows : w.guarded ≡ false → Whole
+    pub whole_shows : is_some w.guard ≡ false → Whole
     whole_shows g =
         let u = s.fits.untailed g in
-        let is : TailIs Empty s.below s.rest = rw u.0 at s.tail in
+        let is : TailIs Empty s.below s.rest = rw u at s.tail in
         let c : w.skipped + w.filled + 0 ≡ k = rw (columns_open g, is.0) at s.columns in
         let v : D ≡ head_of w target * 2 ^ (64 * 0) + 0 = rw (shown_open g, is.0, is.1) at s.value in
-        record { tail = u.0; guard = u.1; below = is.0; rest = is.1; columns = omega arith; value = omega arith }
+        record { tail = u; guard = no_guard w.guard g; below = is.0; rest = is.1; columns = omega arith; value = omega arith }
 
     pub record Tailed : Type 0 where
       pub full : w.filled ≡ length target
       pub columns : w.skipped + (w.filled + 1) + s.below ≡ k
-      pub value : D ≡ (head_of w target * 2 ^ 64 + w.guard) * 2 ^ (64 * s.below) + s.rest
+      pub value : D ≡ (head_of w target * 2 ^ 64 + guard_of w) * 2 ^ (64 * s.below) + s.rest
 
-    pub tailed_shows : w.guarded ≡ true → Tailed
+    pub tailed_shows : is_some w.guard ≡ true → Tailed
     tailed_shows g = record {
       full = s.fits.full g;
       columns = rw (columns_guarded g) at s.columns;
       value = rw (shown_guarded g) at s.value;
     }
 
-  pub show_open : (k D : ℕ) → 0 < length target → w.filled ≤ length target → w.guarded ≡ false → w.tail ≡ Empty → w.guard ≡ 0
+  pub show_open : (k D : ℕ) → 0 < length target → w.filled ≤ length target → is_some w.guard ≡ false → w.tail ≡ Empty
       → w.skipped + w.filled ≡ k → D ≡ head_of w target → (0 < w.filled → 2 ^ (64 * (w.filled - 1)) < D) → Shows w target k D
-  show_open k D l h g t z c v leads = record {
-    fits = record { limbs = l; within = h; guard_fits = omega arith; full = λ e. absurd (no (sym g ∙ e)); untailed = λ e. (t, z) };
+  show_open k D l h g t c v leads = record {
+    fits = record { limbs = l; within = h; guard_fits = omega (arith, no_guard w.guard g); full = λ e. absurd (no (sym g ∙ e)); untailed = λ e. t };
     below = 0;
     rest = 0;
     columns = rw (columns_open g) (omega arith);
@@ -96,8 +102,8 @@ module _ (w : Window) (target : List ℕ) where
       no : false ≡ true → ⊥
       no e = let z : ◌≡◌ {A = ℕ} 0 1 = cc in omega arith
 
-  pub show_guarded : (k D t q : ℕ) → 0 < length target → w.guard < 2 ^ 64 → w.filled ≡ length target → w.guarded ≡ true → TailIs w.tail t q
-      → w.skipped + (w.filled + 1) + t ≡ k → D ≡ (head_of w target * 2 ^ 64 + w.guard) * 2 ^ (64 * t) + q
+  pub show_guarded : (k D t q : ℕ) → 0 < length target → guard_of w < 2 ^ 64 → w.filled ≡ length target → is_some w.guard ≡ true → TailIs w.tail t q
+      → w.skipped + (w.filled + 1) + t ≡ k → D ≡ (head_of w target * 2 ^ 64 + guard_of w) * 2 ^ (64 * t) + q
       → 2 ^ (64 * (w.filled + t)) < D → Shows w target k D
   show_guarded k D t q l x full g is c v leads = record {
     fits = record { limbs = l; within = omega arith; guard_fits = x; full = λ e. full; untailed = λ e. absurd (no (sym g ∙ e)) };
@@ -122,12 +128,12 @@ room_above B M N m low g q h y s e f l =
     let most : m + 1 ≤ g * M = omega (arith, mul-le-mul_right M more) in
     omega (arith, mul-le-mul_right B most))
 
-module _ (w : Window) (low : ℕ) (change : Change) (before : List ℕ) where
+module _ (w : Window) (low : ℕ) (change : Option Change) (before : List ℕ) where
   -- a limb of the target is filled
-  module _ (mid after : List ℕ) (carry : Bool) (g : w.guarded ≡ false) (f : w.filled < length before)
+  module _ (mid after : List ℕ) (carry : Bool) (g : is_some w.guard ≡ false) (f : w.filled < length before)
       (c : ChangedAt change (length before - w.filled) w.carry before mid carry) (e : after ≡ set mid (length before - w.filled - 1) low) where
     abbrev r : Window
-    r = window_of w.skipped carry (w.filled + 1) false 0 w.tail
+    r = window_of w.skipped carry (w.filled + 1) None w.tail
 
     same_after : length after ≡ length before
     same_after = ap length e ∙ length-set mid (length before - w.filled - 1) low ∙ c.same_length
@@ -158,19 +164,19 @@ module _ (w : Window) (low : ℕ) (change : Change) (before : List ℕ) where
           let weight : (2 ^ 64) ^ (length before - (length before - w.filled)) ≡ 2 ^ (64 * n) = let x : length before - (length before - w.filled) ≡ n = omega arith in rw (x, base_pow n) refl in
           let moved : Moved change (part_of (length before - w.filled) w.carry before) m = rw (o.value, head_part w before s.fits.within) at mv in
           let p : part_of (length before - w.filled) carry mid ≡ m = c.value m moved (rw weight room) in
-          show_open r after (suc k) (m * 2 ^ 64 + low) (rw same_after s.fits.limbs) (rw same_after (omega arith)) refl o.tail refl (omega (arith, o.columns)) (head_more m p)
+          show_open r after (suc k) (m * 2 ^ 64 + low) (rw same_after s.fits.limbs) (rw same_after (omega arith)) refl o.tail (omega (arith, o.columns)) (head_more m p)
           (λ some. let x : w.filled + 1 - 1 ≡ n = omega arith in rw x leads);
     }
 
   -- the target is full, and the guard is set
-  module _ (after : List ℕ) (carry : Bool) (g : w.guarded ≡ false) (small : low < 2 ^ 64) (f : w.filled ≡ length before) (c : ChangedAt change 0 w.carry before after carry) where
-    pub guard_set : Appended w low change before (window_of w.skipped carry w.filled true low w.tail) after
+  module _ (after : List ℕ) (carry : Bool) (g : is_some w.guard ≡ false) (small : low < 2 ^ 64) (f : w.filled ≡ length before) (c : ChangedAt change 0 w.carry before after carry) where
+    pub guard_set : Appended w low change before (window_of w.skipped carry w.filled (Some low) w.tail) after
     guard_set = record {
       same_length = c.same_length;
       same_skip = refl;
       shows = λ k n D m s unmixed en mv room leads.
           let o = whole_shows w before k D s g in
-          let r : Window = window_of w.skipped carry w.filled true low w.tail in
+          let r : Window = window_of w.skipped carry w.filled (Some low) w.tail in
           let ef : n ≡ w.filled = omega (arith, o.columns) in
           let none : length before - w.filled ≡ 0 = omega arith in
           let all : length before - 0 ≡ n = omega arith in
@@ -184,18 +190,18 @@ module _ (w : Window) (low : ℕ) (change : Change) (before : List ℕ) where
     }
 
   -- below a guard
-  module _ (after : List ℕ) (carry : Bool) (up into : Change) (limb : ℕ) (tail : Tail) (g : w.guarded ≡ true) (small : low < 2 ^ 64) (digit : limb < 2 ^ 64)
-      (pt : PassesTail change w.tail low up tail) (pl : PassesLimb up w.guard into limb) (c : ChangedAt into 0 w.carry before after carry) where
-    pub tail_longer : Appended w low change before (window_of w.skipped carry w.filled true limb tail) after
+  module _ (after : List ℕ) (carry : Bool) (up into : Option Change) (limb : ℕ) (tail : Tail) (g : is_some w.guard ≡ true) (small : low < 2 ^ 64) (digit : limb < 2 ^ 64)
+      (pt : PassesTail change w.tail low up tail) (pl : PassesLimb up (guard_of w) into limb) (c : ChangedAt into 0 w.carry before after carry) where
+    pub tail_longer : Appended w low change before (window_of w.skipped carry w.filled (Some limb) tail) after
     tail_longer = record {
       same_length = c.same_length;
       same_skip = refl;
       shows = λ k n D m s unmixed en mv room leads.
           let o = tailed_shows w before k D s g in
-          let r : Window = window_of w.skipped carry w.filled true limb tail in
+          let r : Window = window_of w.skipped carry w.filled (Some limb) tail in
           let H : ℕ = head_of w before in
           let t : ℕ = s.below in
-          let a = pt t s.rest (H * 2 ^ 64 + w.guard) m s.tail unmixed (rw o.value at mv) in
+          let a = pt t s.rest (H * 2 ^ 64 + guard_of w) m s.tail unmixed (rw o.value at mv) in
           let b = pl H a.0 a.2 in
           let none : length before - w.filled ≡ 0 = omega (arith, o.full) in
           let all : length before - 0 ≡ w.filled = omega (arith, o.full) in
@@ -220,19 +226,19 @@ no_limbs : (target : List ℕ) → value_of (drop (length target - 0) target) �
 no_limbs target = let z : length target - 0 ≡ length target = omega arith in rw (z, drop-length target) (value_nil (2 ^ 64))
 
 -- nothing is shown, or a 1 that stands as the carry
-pub show_start : (target : List ℕ) (k : ℕ) (carry : Bool) → 0 < length target → Shows (window_of k carry 0 false 0 Empty) target k (bit carry)
+pub show_start : (target : List ℕ) (k : ℕ) (carry : Bool) → 0 < length target → Shows (window_of k carry 0 None Empty) target k (bit carry)
 unfolding head_of
 show_start target k carry l =
-    show_open (window_of k carry 0 false 0 Empty) target k (bit carry) l (omega arith) refl refl refl (omega arith)
+    show_open (window_of k carry 0 None Empty) target k (bit carry) l (omega arith) refl refl (omega arith)
     (omega (arith, no_limbs target)) (λ f. absurd (omega arith))
 
 -- and a window of which no limb is filled shows no more
 pub unfilled_shows : (w : Window) (target : List ℕ) (k D : ℕ) (s : Shows w target k D) → w.filled ≡ 0
-    → (w.guarded ≡ false) × (w.skipped ≡ k) × (D ≡ bit w.carry)
+    → (is_some w.guard ≡ false) × (w.skipped ≡ k) × (D ≡ bit w.carry)
 unfolding head_of
-unfilled_shows w target k D s z = go w.guarded refl
+unfilled_shows w target k D s z = go (is_some w.guard) refl
   where
-    go : (p : Bool) → w.guarded ≡ p → (w.guarded ≡ false) × (w.skipped ≡ k) × (D ≡ bit w.carry)
+    go : (p : Bool) → is_some w.guard ≡ p → (is_some w.guard ≡ false) × (w.skipped ≡ k) × (D ≡ bit w.carry)
     go true g = absurd (omega (arith, s.fits.full g, s.fits.limbs))
     go false g =
         let o = whole_shows w target k D s g in
@@ -240,4 +246,4 @@ unfilled_shows w target k D s z = go w.guarded refl
         (g, omega (arith, o.columns), omega (arith, v, no_limbs target))
 
 pub unfilled_unmixed : (w : Window) (target : List ℕ) (k D : ℕ) → Shows w target k D → w.filled ≡ 0 → Unmixed w.tail
-unfilled_unmixed w target k D s z e = let t : w.tail ≡ Empty = (s.fits.untailed (unfilled_shows w target k D s z).0).0 in let z : ◌≡◌ {A = ℕ} 0 1 = cc in omega arith
+unfilled_unmixed w target k D s z e = let t : w.tail ≡ Empty = s.fits.untailed (unfilled_shows w target k D s z).0 in let z : ◌≡◌ {A = ℕ} 0 1 = cc in omega arith

@@ -1,14 +1,19 @@
 -- Laws of a tail with one column more. M stands for 2 ^ (64 t), the weight of the t columns. Assumes nothing.
-use mathlib.Core.Path.{◌≡◌, refl, ap, ◌∙◌}
+use mathlib.Core.Path.{◌≡◌, refl, sym, ap, ◌∙◌, subst}
 use Prim.Native.Nat.{ℕ, zero, suc, ◌+◌, ◌-◌, ◌*◌, ◌^◌, ◌≤◌, ◌<◌}
 use native.Mathlib.Nat.{mul-le-mul_left}
 use native.Mathlib.Omega.{arith}
 use lib.Pow.{pow-add, pow_mono, pow_pos}
+use Rattle.std.specs.Prelude.{Option, Some, None}
+use Rattle.std.specs.Option.{is_some, unwrap_or}
+use mathlib.Core.Bool.{Bool, true, false}
+use Rattle.limb.specs.Carry.{bit}
 use Rattle.walk.specs.declared.state.Tail.{Tail}
 use Rattle.walk.specs.declared.state.Tail.TheVariants.{Empty, Zeros, Ones, Mixed}
 use Rattle.walk.specs.declared.change.Change.{Change}
-use Rattle.walk.specs.declared.change.Change.TheVariants.{Stay, Rise, Fall}
-use Rattle.walk.specs.Tail.{LongerTail, PassesTail}
+use Rattle.walk.specs.declared.change.Change.TheVariants.{Rise, Fall}
+use Rattle.walk.specs.Change.{Moved}
+use Rattle.walk.specs.Tail.{LongerTail, PassesTail, turned}
 
 -- one column more weighs 2 ^ 64 times as much
 pub column_weight : (t : ℕ) → 2 ^ (64 * suc t) ≡ 2 ^ 64 * 2 ^ (64 * t)
@@ -56,42 +61,51 @@ module _ (low : ℕ) where
   -- ---- what passes to the columns above
 
   -- nothing comes into the tail
-  pub tail_stays : (tail next : Tail) → LongerTail tail low next → PassesTail Stay tail low Stay next
+  pub tail_stays : (tail next : Tail) → LongerTail tail low next → PassesTail None tail low None next
   tail_stays tail next l t n h m is unmixed e = (h, n * 2 ^ 64 + low, refl, rw (column_weight t) (omega (arith, ap (λ (x : ℕ). x * 2 ^ 64) e)), l t n is)
 
-  -- no tail: the column above is changed
-  pub empty_rises : (next : Tail) → LongerTail Empty low next → PassesTail Rise Empty low Rise next
-  empty_rises next l t n h m (e, f) unmixed g = (suc h, n * 2 ^ 64 + low, refl, rw (column_weight t, e) (omega (arith, rw e at g)), l t n (e, f))
+-- no tail: the column above is changed
+empty_passes : (change : Change) (low : ℕ) (next : Tail) → LongerTail Empty low next → PassesTail (Some change) Empty low (Some change) next
+empty_passes change low next l t n h m (e, f) unmixed g =
+    (m, n * 2 ^ 64 + low, subst (λ (x : ℕ). Moved (Some change) x m) (rw (e, f) (omega arith)) g, rw (column_weight t, e) (omega (arith, f)), l t n (e, f))
 
-  pub empty_falls : (next : Tail) → LongerTail Empty low next → PassesTail Fall Empty low Fall next
-  empty_falls next l t n zero m (e, f) unmixed g = absurd (omega arith)
-  empty_falls next l t n (suc h) m (e, f) unmixed g = (h, n * 2 ^ 64 + low, refl, rw (column_weight t, e) (omega (arith, rw e at g)), l t n (e, f))
+some_same : {a b : Tail} → ◌≡◌ {A = Option Tail} (Some a) (Some b) → a ≡ b
+some_same {a} {b} e = ap (λ (x : Option Tail). unwrap_or x a) e
 
-  -- a carry makes zeros of ones, and goes on
-  pub ones_rise : (next : Tail) → LongerTail Zeros low next → PassesTail Rise Ones low Rise next
-  ones_rise next l t n h m (e, f) unmixed g = (suc h, 0 * 2 ^ 64 + low, refl, rw (column_weight t) (omega arith), l t 0 (e, refl))
+none_some : {a : Tail} → ◌≡◌ {A = Option Tail} None (Some a) → ⊥
+unfolding bit
+none_some e = let z : ◌≡◌ {A = Bool} false true = ap is_some e in let f : ◌≡◌ {A = ℕ} 0 1 = ap bit z in omega arith
 
-  -- and ends in zeros
-  pub zeros_rise : low < 2 ^ 64 → PassesTail Rise Zeros low Stay Mixed
-  zeros_rise s t n h m (e, f) unmixed g =
-      let room = column_room (2 ^ 64) (2 ^ (64 * t)) low (omega arith) (weight_large t e) s in
-      (h, 2 ^ 64 + low, refl, rw (column_weight t) (omega arith), (omega arith, omega arith, rw (column_weight t) room))
+zeros_fall : (low : ℕ) (next : Tail) → LongerTail Ones low next → PassesTail (Some Fall) Zeros low (Some Fall) next
+zeros_fall low next l t n zero m (e, f) unmixed g = absurd (omega arith)
+zeros_fall low next l t n (suc h) m (e, f) unmixed g =
+    let M : ℕ = 2 ^ (64 * t) in
+    let top : suc (M - 1) ≡ M = omega (arith, pow_pos (64 * t)) in
+    (h, (M - 1) * 2 ^ 64 + low, refl, rw (column_weight t) (omega arith), l t (M - 1) (e, top))
 
-  -- a borrow makes ones of zeros, and goes on
-  pub zeros_fall : (next : Tail) → LongerTail Ones low next → PassesTail Fall Zeros low Fall next
-  zeros_fall next l t n zero m (e, f) unmixed g = absurd (omega arith)
-  zeros_fall next l t n (suc h) m (e, f) unmixed g =
-      let M : ℕ = 2 ^ (64 * t) in
-      let top : suc (M - 1) ≡ M = omega (arith, pow_pos (64 * t)) in
-      (h, (M - 1) * 2 ^ 64 + low, refl, rw (column_weight t) (omega arith), l t (M - 1) (e, top))
+-- what the change leaves of the tail gets the column, and the change goes on
+pub tail_turned : (change : Change) (tail left : Tail) (low : ℕ) (next : Tail) → turned change tail ≡ Some left → LongerTail left low next
+    → PassesTail (Some change) tail low (Some change) next
+tail_turned change Empty left low next e l t n h m is unmixed g = empty_passes change low next (subst (λ (x : Tail). LongerTail x low next) (sym (some_same e)) l) t n h m is unmixed g
+tail_turned Rise Ones left low next e l t n h m (p, f) unmixed g =
+    let i : LongerTail Zeros low next = subst (λ (x : Tail). LongerTail x low next) (sym (some_same e)) l in
+    (suc h, 0 * 2 ^ 64 + low, refl, rw (column_weight t) (omega arith), i t 0 (p, refl))
+tail_turned Fall Zeros left low next e l t n h m is unmixed g = zeros_fall low next (subst (λ (x : Tail). LongerTail x low next) (sym (some_same e)) l) t n h m is unmixed g
+tail_turned Rise Zeros left low next e l t n h m is unmixed g = absurd (none_some e)
+tail_turned Fall Ones left low next e l t n h m is unmixed g = absurd (none_some e)
+tail_turned change Mixed left low next e l t n h m is unmixed g = absurd (none_some e)
 
-  -- and ends in ones
-  pub ones_fall : low < 2 ^ 64 → PassesTail Fall Ones low Stay Mixed
-  ones_fall s t zero h m (e, f) unmixed g = absurd (omega (arith, weight_large t e))
-  ones_fall s t (suc n) h m (e, f) unmixed g =
-      let some : 1 ≤ n = omega (arith, weight_large t e) in
-      (h, n * 2 ^ 64 + low, refl, rw (column_weight t) (omega arith), (omega arith, omega arith, rw (column_weight t) (omega arith)))
-
-  -- a walk stops at a tail that is mixed
-  pub mixed_stops : (change up : Change) (next : Tail) → PassesTail change Mixed low up next
-  mixed_stops change up next t n h m is unmixed g = absurd (unmixed refl)
+-- the tail holds the change: neither zeros nor ones stand there then
+pub tail_holds : (change : Change) (tail : Tail) (low : ℕ) → low < 2 ^ 64 → turned change tail ≡ None → PassesTail (Some change) tail low None Mixed
+tail_holds Rise Zeros low s e t n h m (p, f) unmixed g =
+    let room = column_room (2 ^ 64) (2 ^ (64 * t)) low (omega arith) (weight_large t p) s in
+    (h, 2 ^ 64 + low, refl, rw (column_weight t) (omega arith), (omega arith, omega arith, rw (column_weight t) room))
+tail_holds Rise Ones low s e t n h m is unmixed g = absurd (none_some (sym e))
+tail_holds Fall Zeros low s e t n h m is unmixed g = absurd (none_some (sym e))
+tail_holds change Empty low s e t n h m is unmixed g = absurd (none_some (sym e))
+tail_holds Fall Ones low s e t zero h m (p, f) unmixed g = absurd (omega (arith, weight_large t p))
+tail_holds Fall Ones low s e t (suc n) h m (p, f) unmixed g =
+    let some : 1 ≤ n = omega (arith, weight_large t p) in
+    (h, n * 2 ^ 64 + low, refl, rw (column_weight t) (omega arith), (omega arith, omega arith, rw (column_weight t) (omega arith)))
+-- a walk stops at a tail that is mixed
+tail_holds change Mixed low s e t n h m is unmixed g = absurd (unmixed refl)

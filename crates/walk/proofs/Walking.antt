@@ -2,6 +2,9 @@
 use mathlib.Core.Path.{◌≡◌, refl, sym, ap, ◌∙◌, subst}
 use mathlib.Core.Bool.{Bool, true, false, not, ◌&&◌}
 use mathlib.Core.List.{List}
+use Rattle.std.specs.Prelude.{Option, Some, None}
+use Rattle.std.specs.Option.{is_some}
+use Rattle.std.specs.Bool.{then_some}
 use Prim.Native.Nat.{ℕ, zero, suc, ◌+◌, ◌-◌, ◌*◌, ◌^◌, ◌≤◌, ◌<◌}
 use native.Mathlib.Nat.{mul-le-mul_right, lt_of_mul-lt-mul_left}
 use native.Mathlib.Omega.{arith}
@@ -16,9 +19,9 @@ use Rattle.walk.specs.declared.state.Window.{Window}
 use Rattle.walk.specs.declared.state.Tail.{Tail}
 use Rattle.walk.specs.declared.state.Tail.TheVariants.{Empty, Zeros, Ones, Mixed}
 use Rattle.walk.specs.declared.change.Change.{Change}
-use Rattle.walk.specs.declared.change.Change.TheVariants.{Stay, Rise, Fall}
+use Rattle.walk.specs.declared.change.Change.TheVariants.{Rise, Fall}
 use Rattle.walk.specs.Change.{Moved}
-use Rattle.walk.specs.Window.{head_of, shown_columns, TailIs, Shows}
+use Rattle.walk.specs.Window.{guard_of, head_of, shown_columns, TailIs, Shows}
 use Rattle.walk.specs.Tail.{Unmixed}
 use Rattle.walk.specs.Append.{Appended, Summed, Differed, Led}
 use Rattle.walk.proofs.Tails.{column_weight}
@@ -47,9 +50,9 @@ guard_lt B M N H x q h hx hq =
 
 -- what is shown has n columns, and a carry above them
 pub shows_lt : (w : Window) (target : List ℕ) (k n D : ℕ) → Below (2 ^ 64) target → Shows w target k D → w.skipped + n ≡ k → D < 2 * 2 ^ (64 * n)
-shows_lt w target k n D b s e = go w.guarded refl
+shows_lt w target k n D b s e = go (is_some w.guard) refl
   where
-    go : (p : Bool) → w.guarded ≡ p → D < 2 * 2 ^ (64 * n)
+    go : (p : Bool) → is_some w.guard ≡ p → D < 2 * 2 ^ (64 * n)
     go false g =
         let o = whole_shows w target k D s g in
         let ef : n ≡ w.filled = omega (arith, o.columns) in
@@ -60,7 +63,7 @@ shows_lt w target k n D b s e = go w.guarded refl
         let ef : 64 * n ≡ 64 * w.filled + 64 + 64 * t = omega (arith, o.columns) in
         let weight : 2 ^ (64 * n) ≡ 2 ^ (64 * w.filled) * 2 ^ 64 * 2 ^ (64 * t) =
         ap (λ (m : ℕ). 2 ^ m) ef ∙ pow-add 2 (64 * w.filled + 64) (64 * t) ∙ ap (λ (m : ℕ). m * 2 ^ (64 * t)) (pow-add 2 (64 * w.filled) 64) in
-        rw (weight, o.value) (guard_lt (2 ^ 64) (2 ^ (64 * t)) (2 ^ (64 * w.filled)) (head_of w target) w.guard s.rest (head_lt w target b s.fits.within) s.fits.guard_fits (tail_lt w.tail t s.rest s.tail))
+        rw (weight, o.value) (guard_lt (2 ^ 64) (2 ^ (64 * t)) (2 ^ (64 * w.filled)) (head_of w target) (guard_of w) s.rest (head_lt w target b s.fits.within) s.fits.guard_fits (tail_lt w.tail t s.rest s.tail))
 
 -- room for a column more is room for what stands above it
 room_before : (B P m x : ℕ) → m * B + x < 2 * (B * P) → m < 2 * P
@@ -104,7 +107,7 @@ module _ (w : Window) (target : List ℕ) (k n D : ℕ) (s : Shows w target k D)
 
 -- ---- a sum
 
-module _ (w r : Window) (a b : ℕ) (before after : List ℕ) (change : Change) (low : ℕ) (p : Appended w low change before r after) where
+module _ (w r : Window) (a b : ℕ) (before after : List ℕ) (change : Option Change) (low : ℕ) (p : Appended w low change before r after) where
   sum_column : (k n D m : ℕ) → Shows w before k D → Unmixed w.tail → w.skipped + n ≡ k → Moved change D m → D ≤ m → m * 2 ^ 64 + low ≡ D * 2 ^ 64 + a + b
       → D * 2 ^ 64 + a + b < 2 * 2 ^ (64 * suc n) → (w.filled ≡ 0 → 1 < D * 2 ^ 64 + a + b) → Shows r after (suc k) (D * 2 ^ 64 + a + b)
   sum_column k n D m s unmixed en mv h ev room first =
@@ -113,24 +116,30 @@ module _ (w r : Window) (a b : ℕ) (before after : List ℕ) (change : Change) 
       subst (λ (x : ℕ). Shows r after (suc k) x) ev
       (p.shows k n D m s unmixed en mv (room_before (2 ^ 64) (2 ^ (64 * n)) m low fits) (leads_on w before k n D s en m low h start))
 
-pub sum_rises : (w r : Window) (a b : ℕ) (before after : List ℕ) (low : ℕ) → low + 2 ^ 64 * 1 ≡ a + b + 0 → Appended w low Rise before r after → Summed w a b before r after
+sum_rises : (w r : Window) (a b : ℕ) (before after : List ℕ) (low : ℕ) → low + 2 ^ 64 * 1 ≡ a + b + 0 → Appended w low (Some Rise) before r after → Summed w a b before r after
 sum_rises w r a b before after low e p = record {
   same_length = p.same_length;
   same_skip = p.same_skip;
-  shows = λ k n D s unmixed en room first. sum_column w r a b before after Rise low p k n D (suc D) s unmixed en refl (omega arith) (omega arith) room first;
+  shows = λ k n D s unmixed en room first. sum_column w r a b before after (Some Rise) low p k n D (suc D) s unmixed en refl (omega arith) (omega arith) room first;
 }
 
-pub sum_stays : (w r : Window) (a b : ℕ) (before after : List ℕ) (low : ℕ) → low + 2 ^ 64 * 0 ≡ a + b + 0 → Appended w low Stay before r after → Summed w a b before r after
+sum_stays : (w r : Window) (a b : ℕ) (before after : List ℕ) (low : ℕ) → low + 2 ^ 64 * 0 ≡ a + b + 0 → Appended w low None before r after → Summed w a b before r after
 sum_stays w r a b before after low e p = record {
   same_length = p.same_length;
   same_skip = p.same_skip;
-  shows = λ k n D s unmixed en room first. sum_column w r a b before after Stay low p k n D D s unmixed en refl (omega arith) (omega arith) room first;
+  shows = λ k n D s unmixed en room first. sum_column w r a b before after None low p k n D D s unmixed en refl (omega arith) (omega arith) room first;
 }
+
+pub sum_appended : (w r : Window) (a b : ℕ) (before after : List ℕ) (low : ℕ) (out : Bool) → low + 2 ^ 64 * bit out ≡ a + b + bit false
+    → Appended w low (then_some out Rise) before r after → Summed w a b before r after
+unfolding bit
+sum_appended w r a b before after low true e p = sum_rises w r a b before after low e p
+sum_appended w r a b before after low false e p = sum_stays w r a b before after low e p
 
 -- ---- a difference
 
 module _ (w r : Window) (a b : ℕ) (before after : List ℕ) (low : ℕ) (limbs : Below (2 ^ 64) before) (f : 0 < w.filled) where
-  pub difference_stays : low + b + 0 ≡ a + 2 ^ 64 * 0 → Appended w low Stay before r after → Differed w a b before r after
+  difference_stays : low + b + 0 ≡ a + 2 ^ 64 * 0 → Appended w low None before r after → Differed w a b before r after
   difference_stays e p = record {
     same_length = p.same_length;
     shows = λ k D s unmixed h.
@@ -141,7 +150,7 @@ module _ (w r : Window) (a b : ℕ) (before after : List ℕ) (low : ℕ) (limbs
         (p.shows k n D D s unmixed en refl (shows_lt w before k n D limbs s en) (leads_on w before k n D s en D low (omega arith) (λ z. absurd (omega arith))));
   }
 
-  pub difference_falls : b < 2 ^ 64 → low + b + 0 ≡ a + 2 ^ 64 * 1 → Appended w low Fall before r after → Differed w a b before r after
+  difference_falls : b < 2 ^ 64 → low + b + 0 ≡ a + 2 ^ 64 * 1 → Appended w low (Some Fall) before r after → Differed w a b before r after
   difference_falls hb e p = record {
     same_length = p.same_length;
     shows = λ k D s unmixed h.
@@ -153,6 +162,11 @@ module _ (w r : Window) (a b : ℕ) (before after : List ℕ) (low : ℕ) (limbs
         subst (λ (y : ℕ). Shows r after (suc k) y) ev
         (p.shows k n D m s unmixed en mv (omega (arith, shows_lt w before k n D limbs s en)) (leads_below w before k n D s en m low mv (omega arith) f));
   }
+
+  pub difference_appended : b < 2 ^ 64 → (out : Bool) → low + b + bit false ≡ a + 2 ^ 64 * bit out → Appended w low (then_some out Fall) before r after → Differed w a b before r after
+  unfolding bit
+  difference_appended hb true e p = difference_falls hb e p
+  difference_appended hb false e p = difference_stays e p
 
 -- ---- the first columns of a difference
 
@@ -171,7 +185,7 @@ module _ (w : Window) (low : ℕ) (borrow : Bool) (before : List ℕ) (small : l
       made k u.1 s.fits.limbs (first_column w.carry borrow low E small t (rw u.2 at e))
 
   -- a 1 stands above, and stays
-  pub led_pending : (r : Window) (after : List ℕ) → w.carry ≡ true → borrow ≡ false → Appended w low Stay before r after → Led w low borrow before r after
+  pub led_pending : (r : Window) (after : List ℕ) → w.carry ≡ true → borrow ≡ false → Appended w low None before r after → Led w low borrow before r after
   unfolding bit
   led_pending r after c nb p = record {
     same_length = p.same_length;
@@ -191,17 +205,17 @@ module _ (w : Window) (low : ℕ) (borrow : Bool) (before : List ℕ) (small : l
   }
 
   -- a 1 stands here, and becomes the carry
-  pub led_one : w.carry && not borrow ≡ false → low ≡ 1 → Led w low borrow before (window_of (w.skipped + 1) true 0 false 0 Empty) before
+  pub led_one : w.carry && not borrow ≡ false → low ≡ 1 → Led w low borrow before (window_of (w.skipped + 1) true 0 None Empty) before
   unfolding bit
   led_one t one = record {
     same_length = refl;
-    shows = λ k D E s e. kept_open (window_of (w.skipped + 1) true 0 false 0 Empty) E t
-        (λ j f l g. let ej : w.skipped + 1 ≡ suc j = omega arith in let ee : 1 ≡ E = omega arith in subst (λ (y : ℕ). Shows (window_of (w.skipped + 1) true 0 false 0 Empty) before (suc j) y) ee (subst (λ (y : ℕ). Shows (window_of (w.skipped + 1) true 0 false 0 Empty) before y 1) ej (show_start before (w.skipped + 1) true l))) k D s e;
+    shows = λ k D E s e. kept_open (window_of (w.skipped + 1) true 0 None Empty) E t
+        (λ j f l g. let ej : w.skipped + 1 ≡ suc j = omega arith in let ee : 1 ≡ E = omega arith in subst (λ (y : ℕ). Shows (window_of (w.skipped + 1) true 0 None Empty) before (suc j) y) ee (subst (λ (y : ℕ). Shows (window_of (w.skipped + 1) true 0 None Empty) before y 1) ej (show_start before (w.skipped + 1) true l))) k D s e;
   }
 
   -- two or more stand here: the first limb
   pub led_first : (here r : Window) (after : List ℕ) → w.carry && not borrow ≡ false → 1 < low → here.filled ≡ 0
-      → ((target : List ℕ) → 0 < length target → Shows here target w.skipped 0) → Appended here low Stay before r after → Led w low borrow before r after
+      → ((target : List ℕ) → 0 < length target → Shows here target w.skipped 0) → Appended here low None before r after → Led w low borrow before r after
   led_first here r after t more y made p = record {
     same_length = p.same_length;
     shows = λ k D E s e.

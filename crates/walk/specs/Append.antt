@@ -1,6 +1,6 @@
 -- What one column more makes of a window. Definitions only.
 -- After k columns the window shows D; n of them stand from the first one shown on.
-use Rattle.std.specs.Prelude.{ℕ, suc, ◌+◌, ◌-◌, ◌*◌, ◌^◌, ◌≤◌, ◌<◌, ◌≡◌, Bool, List, length}
+use Rattle.std.specs.Prelude.{ℕ, suc, ◌+◌, ◌-◌, ◌*◌, ◌^◌, ◌≤◌, ◌<◌, ◌≡◌, Bool, Option, List, length}
 use Rattle.limb.specs.Carry.{bit}
 use Rattle.walk.specs.declared.state.Window.{Window}
 use Rattle.walk.specs.declared.change.Change.{Change}
@@ -9,7 +9,7 @@ use Rattle.walk.specs.Window.{Shows}
 use Rattle.walk.specs.Tail.{Unmixed}
 
 -- D becomes m, and `low` stands below it
-pub record Appended (w : Window) (low : ℕ) (change : Change) (before : List ℕ) (r : Window) (after : List ℕ) : Type 0 where
+pub record Appended (w : Window) (low : ℕ) (change : Option Change) (before : List ℕ) (r : Window) (after : List ℕ) : Type 0 where
   pub same_length : length after ≡ length before
   pub same_skip : r.skipped ≡ w.skipped
   pub shows :

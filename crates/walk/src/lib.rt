@@ -5,6 +5,6 @@ mod change; // change.rt: a number changed by one, from a limb up
 mod tail; // tail.rt: the columns below the guard
 mod state; // state.rt: what is read of the sum, and one column more
 
-pub use change::{Change, fall};
+pub use change::{Change, Passed, change_from};
 pub use state::{Tail, Window, append_difference, append_sum, start};
-pub use tail::{TailPassed, pass_tail};
+pub use tail::pass_tail;

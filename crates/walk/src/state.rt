@@ -3,7 +3,7 @@
 //
 //     carry | target: filled limbs from the top | guard | tail
 //
-ghost use Rattle.std.specs.Prelude.{◌≡◌, true, List, ℕ, ◌+◌, ◌^◌, ◌<◌, length};
+ghost use Rattle.std.specs.Prelude.{◌≡◌, Some, List, ℕ, ◌+◌, ◌^◌, ◌<◌, length};
 ghost use Rattle.walk.specs.Window.{Fits, Shows};
 ghost use Rattle.walk.specs.Append.{Appended, Summed, Led, Differed};
 
@@ -23,8 +23,7 @@ pub struct Window {
     pub skipped: u64,
     pub carry: bool,
     pub filled: usize,
-    pub guarded: bool,
-    pub guard: u64,
+    pub guard: Option<u64>,
     pub tail: Tail,
 }
 
@@ -36,43 +35,47 @@ pub fn start(skipped: u64) -> Window
         skipped: skipped,
         carry: false,
         filled: 0,
-        guarded: false,
-        guard: 0,
+        guard: None,
         tail: Tail::Empty,
     }
 }
 
 // A column below the guard.
-fn append_tail(w: Window, target: &mut [u64], low: u64, change: Change) -> Window
-    requires { Fits w target.old × (w.guarded ≡ true) }
+fn append_tail(
+    w: Window,
+    target: &mut [u64],
+    guard: u64,
+    low: u64,
+    change: Option<Change>,
+) -> Window
+    requires { Fits w target.old × (w.guard ≡ Some guard) }
     ensures { Appended w low change target.old result target.new }
 {
     let tail = w.tail;
     let under = pass_tail(tail, low, change);
     let into_guard = under.up;
-    let here = pass_limb(w.guard, into_guard);
+    let here = pass_limb(guard, into_guard);
     let into_target = here.up;
     let carry = change_at(target, 0, w.carry, into_target);
-    let next = under.tail;
+    let next = under.left;
     Window {
         skipped: w.skipped,
         carry: carry,
         filled: w.filled,
-        guarded: true,
-        guard: here.limb,
+        guard: Some(here.left),
         tail: next,
     }
 }
 
 // One column more: its limb, and what it does to the column above.
-fn append(w: Window, target: &mut [u64], low: u64, change: Change) -> Window
+fn append(w: Window, target: &mut [u64], low: u64, change: Option<Change>) -> Window
     requires { Fits w target.old }
     ensures { Appended w low change target.old result target.new }
 {
     let filled = w.filled;
     let tail = w.tail;
-    if w.guarded {
-        return append_tail(w, target, low, change);
+    if let Some(guard) = w.guard {
+        return append_tail(w, target, guard, low, change);
     }
     if filled < target.len() {
         let at = target.len() - filled;
@@ -82,8 +85,7 @@ fn append(w: Window, target: &mut [u64], low: u64, change: Change) -> Window
             skipped: w.skipped,
             carry: carry,
             filled: filled + 1,
-            guarded: false,
-            guard: 0,
+            guard: None,
             tail: tail,
         };
     }
@@ -92,8 +94,7 @@ fn append(w: Window, target: &mut [u64], low: u64, change: Change) -> Window
         skipped: w.skipped,
         carry: carry,
         filled: filled,
-        guarded: true,
-        guard: low,
+        guard: Some(low),
         tail: tail,
     }
 }
@@ -104,11 +105,7 @@ pub fn append_sum(w: Window, target: &mut [u64], a: u64, b: u64) -> Window
     ensures { Summed w a b target.old result target.new }
 {
     let s = limb::add_carry(a, b, false);
-    if s.carry {
-        append(w, target, s.limb, Change::Rise)
-    } else {
-        append(w, target, s.limb, Change::Stay)
-    }
+    append(w, target, s.limb, s.carry.then_some(Change::Rise))
 }
 
 // The first columns of a difference: no limb is kept until 2 or more stands there, so that no borrow can empty the top limb.
@@ -120,7 +117,7 @@ fn lead(w: Window, target: &mut [u64], low: u64, borrow: bool) -> Window
     let none = start(w.skipped + 1);
     let here = start(w.skipped);
     if pending & !borrow {
-        return append(w, target, low, Change::Stay);
+        return append(w, target, low, None);
     }
     if low == 0 {
         return none;
@@ -130,12 +127,11 @@ fn lead(w: Window, target: &mut [u64], low: u64, borrow: bool) -> Window
             skipped: w.skipped + 1,
             carry: true,
             filled: 0,
-            guarded: false,
-            guard: 0,
+            guard: None,
             tail: Tail::Empty,
         };
     }
-    append(here, target, low, Change::Stay)
+    append(here, target, low, None)
 }
 
 // The next column of a difference.
@@ -148,9 +144,5 @@ pub fn append_difference(w: Window, target: &mut [u64], a: u64, b: u64) -> Windo
     if filled == 0 {
         return lead(w, target, s.limb, s.carry);
     }
-    if s.carry {
-        append(w, target, s.limb, Change::Fall)
-    } else {
-        append(w, target, s.limb, Change::Stay)
-    }
+    append(w, target, s.limb, s.carry.then_some(Change::Fall))
 }

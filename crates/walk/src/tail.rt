@@ -1,8 +1,8 @@
 // The columns below the guard, of which only this is kept: none, all zeros, all ones, or neither.
-ghost use Rattle.walk.specs.declared.change.Change.TheVariants.{Rise, Fall};
-ghost use Rattle.walk.specs.Tail.{LongerTail, PassesTail};
+ghost use Rattle.std.specs.Prelude.{◌≡◌};
+ghost use Rattle.walk.specs.Tail.{LongerTail, PassesTail, turned};
 
-use crate::change::Change;
+use crate::change::{Change, Passed};
 use crate::state::Tail;
 
 // A tail with one column more and nothing carried into it.
@@ -33,86 +33,36 @@ fn longer(tail: Tail, low: u64) -> Tail
     }
 }
 
-// A tail after one column more, and the change of what stands above it.
-#[derive(Clone, Copy)]
-pub struct TailPassed {
-    pub tail: Tail,
-    pub up: Change,
-}
-
-// One column more below a tail that rises: only a tail of ones passes the carry on.
-fn raise_tail(tail: Tail, low: u64) -> TailPassed
-    ensures { PassesTail Rise tail low result.up result.tail }
+// What a change that goes on above a tail leaves of it: a carry makes zeros of ones, a borrow ones of zeros. Any other tail holds the change.
+fn turned(tail: Tail, change: Change) -> Option<Tail>
+    ensures { result ≡ turned change tail }
 {
-    match tail {
-        Tail::Empty => {
-            let next = longer(Tail::Empty, low);
-            TailPassed {
-                tail: next,
-                up: Change::Rise,
-            }
-        },
-        Tail::Ones => {
-            let next = longer(Tail::Zeros, low);
-            TailPassed {
-                tail: next,
-                up: Change::Rise,
-            }
-        },
-        Tail::Zeros => TailPassed {
-            tail: Tail::Mixed,
-            up: Change::Stay,
-        },
-        Tail::Mixed => TailPassed {
-            tail: Tail::Mixed,
-            up: Change::Stay,
-        },
-    }
-}
-
-// One column more below a tail that falls: only a tail of zeros passes the borrow on.
-fn lower_tail(tail: Tail, low: u64) -> TailPassed
-    ensures { PassesTail Fall tail low result.up result.tail }
-{
-    match tail {
-        Tail::Empty => {
-            let next = longer(Tail::Empty, low);
-            TailPassed {
-                tail: next,
-                up: Change::Fall,
-            }
-        },
-        Tail::Zeros => {
-            let next = longer(Tail::Ones, low);
-            TailPassed {
-                tail: next,
-                up: Change::Fall,
-            }
-        },
-        Tail::Ones => TailPassed {
-            tail: Tail::Mixed,
-            up: Change::Stay,
-        },
-        Tail::Mixed => TailPassed {
-            tail: Tail::Mixed,
-            up: Change::Stay,
-        },
+    match (change, tail) {
+        (_, Tail::Empty) => Some(Tail::Empty),
+        (Change::Rise, Tail::Ones) => Some(Tail::Zeros),
+        (Change::Fall, Tail::Zeros) => Some(Tail::Ones),
+        _ => None,
     }
 }
 
 // One column more below a tail, changed or not.
-pub fn pass_tail(tail: Tail, low: u64, change: Change) -> TailPassed
-    ensures { PassesTail change tail low result.up result.tail }
+pub fn pass_tail(tail: Tail, low: u64, change: Option<Change>) -> Passed<Tail>
+    ensures { PassesTail change tail low result.up result.left }
 {
-    match change {
-        Change::Stay => {
-            let next = longer(tail, low);
-            TailPassed {
-                tail: next,
-                up: Change::Stay,
-            }
+    let Some(by_one) = change else {
+        return Passed {
+            left: longer(tail, low),
+            up: None,
+        };
+    };
+    match turned(tail, by_one) {
+        Some(next) => Passed {
+            left: longer(next, low),
+            up: change,
         },
-        Change::Rise => raise_tail(tail, low),
-        Change::Fall => lower_tail(tail, low),
+        None => Passed {
+            left: Tail::Mixed,
+            up: None,
+        },
     }
 }

@@ -4,15 +4,16 @@ use native.Mathlib.Nat.{pos_of_ne-zero}
 use native.Mathlib.Omega.{arith}
 use lib.Count.{leading_le}
 use lib.ListN.{length, get_or}
+use Rattle.std.specs.Option.{is_some}
 use Rattle.limb.proofs.Carry.{bit_le}
 use Rattle.remnant.proofs.Sizes.{digits_carry, digits_none, digits_limb, with_carry, without_carry, unfilled_unguarded}
 use Rattle.remnant.proofs.digits.digits_of.Goals as goal
 
 pub overflow_add-kept : goal.overflow_add-kept
-overflow_add-kept c = omega (arith, c.guard_digits.ensures, bit_le c.args.w.guarded)
+overflow_add-kept c = omega (arith, c.guard_digits.ensures, bit_le (is_some c.args.w.guard))
 
 pub overflow_add-result : goal.overflow_add-result
-overflow_add-result c = omega (arith, c.guard_digits.ensures, bit_le c.args.w.guarded)
+overflow_add-result c = omega (arith, c.guard_digits.ensures, bit_le (is_some c.args.w.guard))
 
 pub returns-then-w : goal.returns-then-w
 returns-then-w c =

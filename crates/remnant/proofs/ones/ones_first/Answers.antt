@@ -5,6 +5,7 @@ use Prim.Native.Nat.{ℕ, suc, ◌+◌, ◌-◌, ◌*◌, ◌/◌, ◌^◌, ◌�
 use native.Mathlib.Omega.{arith}
 use lib.Dec.{eqb}
 use lib.ListN.{length, drop}
+use Rattle.std.specs.Option.{is_some}
 use Rattle.limb.specs.Carry.{bit}
 use Rattle.limb.specs.Value.{value_of}
 use Rattle.limb.proofs.Carry.{bit_le}
@@ -31,7 +32,7 @@ returns-then-inside-filled c =
     let carry = c.carry_digits in
     let inside : ℕ = d.result - below.result - carry.result in
     let least = d.ensures.least in
-    let sum : d.result ≡ inside + bit g.w.carry + 64 * bit g.w.guarded = omega (arith, below.ensures, carry.ensures) in
+    let sum : d.result ≡ inside + bit g.w.carry + 64 * bit (is_some g.w.guard) = omega (arith, below.ensures, carry.ensures) in
     λ k D s h. absurd (omega (arith, limbs_many g.w g.target.now k D s d.result inside d.ensures sum))
 
 pub overflow_sub-low-then-low-below : goal.overflow_sub-low-then-low-below
@@ -40,7 +41,7 @@ overflow_sub-low-then-low-below c =
     let least = c.digits_of-digits.ensures.least in
     let below = c.guard_digits-below.ensures in
     let carry = c.carry_digits.ensures in
-    let one = bit_le c.args.w.guarded in
+    let one = bit_le (is_some c.args.w.guard) in
     let digit = bit_le c.args.w.carry in
     let within = c.requires.0.within in
     omega arith
@@ -51,7 +52,7 @@ limb_ones-requires c =
     let least = c.digits_of-digits.ensures.least in
     let below = c.guard_digits-below.ensures in
     let carry = c.carry_digits.ensures in
-    let one = bit_le c.args.w.guarded in
+    let one = bit_le (is_some c.args.w.guard) in
     let digit = bit_le c.args.w.carry in
     let within = c.requires.0.within in
     (omega arith, omega arith)
@@ -64,12 +65,12 @@ returns-then-not-limb_ones c =
     let carry = c.carry_digits in
     let inside : ℕ = d.result - below.result - carry.result in
     let least = d.ensures.least in
-    let sum : d.result ≡ inside + bit g.w.carry + 64 * bit g.w.guarded = omega (arith, below.ensures, carry.ensures) in
-    let some : d.result - g.count < 64 * bit g.w.guarded = omega (arith, below.ensures) in
-    let guarded : g.w.guarded ≡ true = guarded_from g.w.guarded _ some in
+    let sum : d.result ≡ inside + bit g.w.carry + 64 * bit (is_some g.w.guard) = omega (arith, below.ensures, carry.ensures) in
+    let some : d.result - g.count < 64 * bit (is_some g.w.guard) = omega (arith, below.ensures) in
+    let guarded : (is_some g.w.guard) ≡ true = guarded_from (is_some g.w.guard) _ some in
     shown_ones g.w g.target.now g.count d.result d.ensures false
-    (λ few. sym (first_fails (eqb (suc (value_of (drop (length g.target.now - g.w.filled) g.target.now))) (2 ^ inside)) _ (sym c.limb_ones.ensures ∙ c.if-not-limb_ones.true))
-    ∙ ones_guard g.w g.target.now g.count d.result d.ensures (λ i. (c.type_inv.target i).fits) inside sum guarded c.requires.0.guard_fits few (omega (arith, bit_le g.w.guarded)))
+    (λ few. sym (first_fails (eqb (suc (value_of (drop (length g.target.now - g.w.filled) g.target.now))) (2 ^ inside)) _ (sym (rw c.unwrap_or.ensures at c.limb_ones.ensures) ∙ c.if-not-limb_ones.true))
+    ∙ ones_guard g.w g.target.now g.count d.result d.ensures (λ i. (c.type_inv.target i).fits) inside sum guarded c.requires.0.guard_fits few (omega (arith, bit_le (is_some g.w.guard))))
 
 pub returns-then-low-below : goal.returns-then-low-below
 returns-then-low-below c =
@@ -79,12 +80,12 @@ returns-then-low-below c =
     let carry = c.carry_digits in
     let inside : ℕ = d.result - below.result - carry.result in
     let least = d.ensures.least in
-    let sum : d.result ≡ inside + bit g.w.carry + 64 * bit g.w.guarded = omega (arith, below.ensures, carry.ensures) in
-    let some : d.result - g.count < 64 * bit g.w.guarded = omega (arith, below.ensures) in
-    let guarded : g.w.guarded ≡ true = guarded_from g.w.guarded _ some in
+    let sum : d.result ≡ inside + bit g.w.carry + 64 * bit (is_some g.w.guard) = omega (arith, below.ensures, carry.ensures) in
+    let some : d.result - g.count < 64 * bit (is_some g.w.guard) = omega (arith, below.ensures) in
+    let guarded : (is_some g.w.guard) ≡ true = guarded_from (is_some g.w.guard) _ some in
     shown_ones g.w g.target.now g.count d.result d.ensures c.ones_from.result
-    (λ few. c.ones_from.ensures ∙ sym (first_holds _ _ (sym c.limb_ones.ensures ∙ c.if-not-limb_ones.false))
-    ∙ ones_guard g.w g.target.now g.count d.result d.ensures (λ i. (c.type_inv.target i).fits) inside sum guarded c.requires.0.guard_fits few (omega (arith, bit_le g.w.guarded)))
+    (λ few. c.ones_from.ensures ∙ sym (first_holds _ _ (sym (rw c.unwrap_or.ensures at c.limb_ones.ensures) ∙ c.if-not-limb_ones.false))
+    ∙ ones_guard g.w g.target.now g.count d.result d.ensures (λ i. (c.type_inv.target i).fits) inside sum guarded c.requires.0.guard_fits few (omega (arith, bit_le (is_some g.w.guard))))
 
 pub overflow_sub-inside-3 : goal.overflow_sub-inside-3
 overflow_sub-inside-3 c =
@@ -92,7 +93,7 @@ overflow_sub-inside-3 c =
     let least = c.digits_of-digits.ensures.least in
     let below = c.guard_digits-below.ensures in
     let carry = c.carry_digits.ensures in
-    let one = bit_le c.args.w.guarded in
+    let one = bit_le (is_some c.args.w.guard) in
     let digit = bit_le c.args.w.carry in
     let within = c.requires.0.within in
     omega arith
@@ -124,7 +125,7 @@ returns c =
     let carry = c.carry_digits in
     let inside : ℕ = d.result - below.result - carry.result in
     let least = d.ensures.least in
-    let sum : d.result ≡ inside + bit g.w.carry + 64 * bit g.w.guarded = omega (arith, below.ensures, carry.ensures) in
+    let sum : d.result ≡ inside + bit g.w.carry + 64 * bit (is_some g.w.guard) = omega (arith, below.ensures, carry.ensures) in
     shown_ones g.w g.target.now g.count d.result d.ensures c.ones_above.result
     (λ few. c.ones_above.ensures
     ∙ ones_limbs g.w g.target.now g.count d.result d.ensures (λ i. (c.type_inv.target i).fits) inside sum (d.result - g.count - below.result) c.requires.0.guard_fits few (omega arith) (omega (arith, below.ensures)))

@@ -1,32 +1,23 @@
 -- `remnant::ones::ones_from` is right since a limb of all ones takes 64 ones off, and the top limb has what is left. Assumes nothing.
-use mathlib.Core.Path.{refl, sym, ap, ◌∙◌}
-use Prim.Native.Nat.{ℕ, suc, ◌-◌, ◌^◌}
-use native.Mathlib.Nat.{div-one}
+use mathlib.Core.Path.{◌∙◌}
 use native.Mathlib.Omega.{arith}
-use lib.Dec.{eqb}
-use Rattle.remnant.proofs.Leading.{last_limb, ones_pass, ones_stop}
+use Rattle.remnant.proofs.Leading.{ones_begin, part_passes, part_stops, part_ends}
 use Rattle.remnant.proofs.ones.ones_from.Goals as goal
 
-pub loop-left-init : goal.loop-left-init
-loop-left-init c = (c.requires.0, c.requires.1, c.requires.2, refl)
+pub loop-limb-init : goal.loop-limb-init
+loop-limb-init c = ones_begin c.args.target.now c.args.from c.args.count
 
-pub returns-then-target-i : goal.returns-then-target-i
-returns-then-target-i c =
-    let l = c.loop-left in
-    ones_stop c.args.target.now l.i (λ i. (c.shared_slice_known-1.given i).fits) l.left c.loop-left-test.true c.if-target-i.true ∙ l.invariant.3
+pub returns-then-limb : goal.returns-then-limb
+returns-then-limb c =
+    let l = c.loop-limb in
+    part_stops c.args.target.now (λ i. (c.type_inv.target i).fits) c.args.from c.args.count l.limb-index c.loop-limb-test.true c.if-limb.true ∙ l.invariant
 
-pub loop-left-preserved : goal.loop-left-preserved
-loop-left-preserved c =
-    let l = c.loop-left in (
-      omega arith,
-      omega arith,
-      omega arith,
-      ones_pass c.args.target.now l.i (λ i. (c.shared_slice_known-1.given i).fits) l.left c.loop-left-test.true c.if-target-i.false ∙ l.invariant.3,
-    )
+pub loop-limb-preserved : goal.loop-limb-preserved
+loop-limb-preserved c =
+    let l = c.loop-limb in
+    part_passes c.args.target.now (λ i. (c.type_inv.target i).fits) c.args.from c.args.count l.limb-index c.loop-limb-test.true c.if-limb.false ∙ l.invariant
 
 pub returns : goal.returns
 returns c =
-    let l = c.loop-left in
-    let t = c.args.target.now in
-    c.limb_ones.ensures
-    ∙ ap (λ (n : ℕ). eqb (suc n) (2 ^ l.left)) (div-one c.limb_at.result ∙ c.limb_at.ensures ∙ sym (last_limb t l.i (omega arith))) ∙ l.invariant.3
+    let l = c.loop-limb in
+    c.limb_ones.ensures ∙ part_ends c.args.target.now c.args.from c.args.count l.limb-index c.limb_at.result c.requires.1 c.requires.2 (omega arith) c.limb_at.ensures ∙ l.invariant

@@ -1,7 +1,7 @@
 -- `walk::append_difference` is right since the limb of the difference stands below and its borrow changes what is above by one. Assumes nothing.
 use native.Mathlib.Nat.{pos_of_ne-zero}
 use Rattle.limb.specs.Carry.{bit}
-use Rattle.walk.proofs.Walking.{difference_led, difference_stays, difference_falls}
+use Rattle.walk.proofs.Walking.{difference_led, difference_appended}
 use borrow.Author.Rules.{rules}
 use Rattle.walk.proofs.state.append_difference.Goals as goal
 
@@ -13,20 +13,11 @@ returns-then-filled-eq0 c =
     let p = c.lead in
     difference_led g.w p.result g.a g.b g.target.now p.new.target d.result.limb d.result.carry d.ensures p.ensures
 
-pub returns-then-s : goal.returns-then-s
+pub returns : goal.returns
 unfolding bit
-returns-then-s c =
+returns c =
     let g = c.args in
     let d = c.sub_borrow-s in
     let p = c.append in
-    difference_falls g.w p.result g.a g.b g.target.now p.new.target d.result.limb (λ i. (c.slice_known-1.given i).fits) (pos_of_ne-zero c.if-filled-eq0.false) (search rules)
-    (rw c.if-s.true at d.ensures) p.ensures
-
-pub returns-else-s : goal.returns-else-s
-unfolding bit
-returns-else-s c =
-    let g = c.args in
-    let d = c.sub_borrow-s in
-    let p = c.append-else-s in
-    difference_stays g.w p.result g.a g.b g.target.now p.new.target d.result.limb (λ i. (c.slice_known-1.given i).fits) (pos_of_ne-zero c.if-filled-eq0.false)
-    (rw c.if-s.false at d.ensures) p.ensures
+    difference_appended g.w p.result g.a g.b g.target.now p.new.target d.result.limb (λ i. (c.slice_known-1.given i).fits) (pos_of_ne-zero c.if-filled-eq0.false) (search rules)
+    d.result.carry d.ensures (rw c.then_some.ensures at p.ensures)
