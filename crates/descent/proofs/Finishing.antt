@@ -34,7 +34,8 @@ use Rattle.place.proofs.Answer.{placed_passed, limbs_passed}
 use Rattle.place.proofs.Rules.{rule_none}
 use Rattle.kept.proofs.Reaching.{top_apart}
 use Rattle.walk.specs.declared.state.Window.{Window}
-use Rattle.walk.specs.Change.{Fallen}
+use Rattle.walk.specs.Change.{ChangedFrom}
+use Rattle.walk.specs.declared.change.Change.TheVariants.{Fall}
 use Rattle.walk.specs.Window.{head_of, TailIs, Shows}
 use Rattle.walk.proofs.Showing.{whole_shows, tailed_shows, columns_open, columns_guarded}
 use Rattle.bridge.proofs.Refine.{enough_digits, refine, refine_less, refine_borrow, scaled_up}
@@ -446,7 +447,7 @@ module _ (mode : Mode) (p unit : ℕ) (negative carry : Bool) (t : List ℕ) (ro
       rw g (ap (λ (n : ℕ). (1 * n + 0) * K + 0) i ∙ omega arith)
   fallen false true Q va vb K m e f l h = let g : vb ≡ 0 = omega arith in absurd (let k : Q < (0 * Q + 0) * K + 0 = rw g at h in omega arith)
 
-  pub less_fall : (guard : ℕ) → guard ≡ 0 → (after : List ℕ) (out : Bool) → Fallen 0 t after out → Below (2 ^ 64) after → {exit : List ℕ} {r : Placed}
+  pub less_fall : (guard : ℕ) → guard ≡ 0 → (after : List ℕ) (out : Bool) → ChangedFrom Fall 0 t after out → Below (2 ^ 64) after → {exit : List ℕ} {r : Placed}
       → r ≡ rounded_placed mode p negative unit (carry && not out) after 18446744073709551615 true → exit ≡ rounded_limbs mode p negative unit (carry && not out) after 18446744073709551615 true
       → 2 ^ (64 * length t) < whole carry t guard → Left p (rounded (way mode negative) p (unit - 1) negative (2 * whole carry t guard - 1)) exit r
   unfolding whole headed

@@ -105,7 +105,7 @@ fn less(
     if guard != 0 {
         return place::round_run(negative, carry, target, guard - 1, true, unit, p, mode);
     }
-    let borrow = walk::fall(target, 0);
+    let borrow = walk::change_from(target, 0, walk::Change::Fall);
     place::round_run(
         negative,
         carry & !borrow,

@@ -17,7 +17,8 @@ use Rattle.place.specs.declared.Placed.{Placed}
 use Rattle.place.specs.Placed.{run_rule}
 use Rattle.place.specs.Rounded.{rounded_placed, rounded_limbs}
 use Rattle.columns.specs.Column.{read_to}
-use Rattle.walk.specs.Change.{Fallen}
+use Rattle.walk.specs.Change.{ChangedFrom}
+use Rattle.walk.specs.declared.change.Change.TheVariants.{Fall}
 use Rattle.settle.specs.declared.rows.Pair.{Pair}
 use Rattle.bridge.proofs.Told.{pair_first}
 use Rattle.checks.specs.Room.{Room}
@@ -39,7 +40,7 @@ use Rattle.far.proofs.Limbs.{read_all}
 pub beside_more : {same : Bool} (first after : List ℕ) → after ≡ first → same ≡ true → Beside same first after 0
 beside_more first after e t = record { size = ap length e; more = λ s. (ap value_of e, refl); less = λ s. absurd (true≢false (sym t ∙ s)) }
 
-pub beside_less : {same : Bool} (first mid after : List ℕ) (out : Bool) → Below (2 ^ 64) after → mid ≡ first → Fallen 0 mid after out → same ≡ false → Beside same first after 18446744073709551615
+pub beside_less : {same : Bool} (first mid after : List ℕ) (out : Bool) → Below (2 ^ 64) after → mid ≡ first → ChangedFrom Fall 0 mid after out → same ≡ false → Beside same first after 18446744073709551615
 beside_less first mid after out lim e f t = record { size = f.same_length ∙ ap length e; more = λ s. absurd (true≢false (sym s ∙ t)); less = λ s. (number_falls mid after out (value_of first) lim (ap value_of e) f, refl) }
 
 -- ---- the limbs used

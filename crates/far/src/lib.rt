@@ -33,7 +33,7 @@ fn fill(same: bool, first: &[u64], target: &mut [u64]) -> u64
     if same {
         return 0;
     }
-    walk::fall(target, 0);
+    walk::change_from(target, 0, walk::Change::Fall);
     u64::MAX
 }
 

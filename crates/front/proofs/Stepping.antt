@@ -11,7 +11,9 @@ use Rattle.limb.proofs.Sizes.{size_is, size_zero}
 use Rattle.limb.proofs.Tests.{true_false}
 use Rattle.walk.specs.declared.state.Tail.{Tail}
 use Rattle.walk.specs.declared.change.Change.{Change}
-use Rattle.walk.specs.declared.change.Change.TheVariants.{Stay, Rise, Fall}
+use Rattle.walk.specs.declared.change.Change.TheVariants.{Rise, Fall}
+use Rattle.std.specs.Prelude.{Option, Some, None}
+use Rattle.std.specs.Bool.{then_some}
 use Rattle.walk.specs.Change.{Moved}
 use Rattle.walk.specs.Tail.{Unmixed, PassesTail}
 use Rattle.walk.proofs.Tails.{column_weight}
@@ -56,12 +58,12 @@ digits_limb f l c = limb_digits f.limb l ∙ rw c (ap size (omega arith))
 -- ---- changed by one
 
 module _ (carry : Bool) (limb : ℕ) (tail : Tail) where
-  pub first_stays : Changed carry limb tail Stay (front_of carry limb tail)
+  pub first_stays : Changed carry limb tail None (front_of carry limb tail)
   unfolding first_of
   first_stays = record { same_tail = refl; first = λ m e small. sym e }
 
   -- a carry out of the limb is the carry above it, which was 0
-  pub first_rises : (s : ℕ) (out : Bool) → s + 2 ^ 64 * bit out ≡ limb + 1 + bit false → Changed carry limb tail Rise (front_of (carry || out) s tail)
+  pub first_rises : (s : ℕ) (out : Bool) → s + 2 ^ 64 * bit out ≡ limb + 1 + bit false → Changed carry limb tail (Some Rise) (front_of (carry || out) s tail)
   unfolding first_of bit
   first_rises s out e = record { same_tail = refl; first = λ m f small. risen carry out m e f small }
     where
@@ -72,7 +74,7 @@ module _ (carry : Bool) (limb : ℕ) (tail : Tail) where
       risen false false m e f small = omega arith
 
   -- a borrow out of the limb takes the carry above it, which was 1
-  pub first_falls : (d : ℕ) (out : Bool) → d < 2 ^ 64 → d + 1 + bit false ≡ limb + 2 ^ 64 * bit out → Changed carry limb tail Fall (front_of (carry && not out) d tail)
+  pub first_falls : (d : ℕ) (out : Bool) → d < 2 ^ 64 → d + 1 + bit false ≡ limb + 2 ^ 64 * bit out → Changed carry limb tail (Some Fall) (front_of (carry && not out) d tail)
   unfolding first_of bit
   first_falls d out l e = record { same_tail = refl; first = λ m f small. fallen carry out m e f }
     where
@@ -92,7 +94,7 @@ room_above B M m low g q s e l =
     let more : (m + 1) * B ≤ g * M * B = mul-le-mul_right B (omega arith) in
     omega arith)
 
-pub column_below : (f r : Front) (low : ℕ) (change up : Change) (next : Tail) → low < 2 ^ 64 → PassesTail change f.tail low up next → Changed f.carry f.limb next up r
+pub column_below : (f r : Front) (low : ℕ) (change up : Option Change) (next : Tail) → low < 2 ^ 64 → PassesTail change f.tail low up next → Changed f.carry f.limb next up r
     → FrontGrown f low change r
 unfolding first_of
 column_below f r low change up next small pass change_first t D m s unmixed moved room =
@@ -106,34 +108,39 @@ column_below f r low change up next small pass change_first t D m s unmixed move
       value = a.3 ∙ ap (λ (x : ℕ). x * 2 ^ (64 * suc t) + a.1) (sym first);
     }
   where
-    first_was : (up : Change) (g : ℕ) → Moved up (first_of f) g → Moved up (bit f.carry * 2 ^ 64 + f.limb) g
+    first_was : (up : Option Change) (g : ℕ) → Moved up (first_of f) g → Moved up (bit f.carry * 2 ^ 64 + f.limb) g
     first_was up g e = e
 
 -- ---- of a sum
 
 module _ (f r : Front) (a b low : ℕ) where
   -- room for a column more is room for what stands above it
-  sum_column : (change : Change) → FrontGrown f low change r → (t D m : ℕ) → ShowsFront f t D → Unmixed f.tail → Moved change D m → m * 2 ^ 64 + low ≡ D * 2 ^ 64 + a + b
+  sum_column : (change : Option Change) → FrontGrown f low change r → (t D m : ℕ) → ShowsFront f t D → Unmixed f.tail → Moved change D m → m * 2 ^ 64 + low ≡ D * 2 ^ 64 + a + b
       → D * 2 ^ 64 + a + b < 2 * 2 ^ (64 * suc (suc t)) → ShowsFront r (suc t) (D * 2 ^ 64 + a + b)
   sum_column change p t D m s unmixed moved e room =
       let fits : m * 2 ^ 64 + low < 2 * (2 ^ 64 * 2 ^ (64 * suc t)) = rw e (rw (column_weight (suc t)) at room) in
       subst (λ (x : ℕ). ShowsFront r (suc t) x) e (p t D m s unmixed moved (lt_of_mul-lt-mul_left (2 ^ 64) (omega arith)))
 
-  pub sum_rises : low + 2 ^ 64 * 1 ≡ a + b + 0 → FrontGrown f low Rise r → Stepped true f a b r
+  sum_rises : low + 2 ^ 64 * 1 ≡ a + b + 0 → FrontGrown f low (Some Rise) r → Stepped true f a b r
   sum_rises e p = record {
-    sum = λ y t D s unmixed room. sum_column Rise p t D (suc D) s unmixed refl (omega arith) room;
+    sum = λ y t D s unmixed room. sum_column (Some Rise) p t D (suc D) s unmixed refl (omega arith) room;
     difference = λ y. absurd (true_false refl y);
   }
 
-  pub sum_stays : low + 2 ^ 64 * 0 ≡ a + b + 0 → FrontGrown f low Stay r → Stepped true f a b r
+  sum_stays : low + 2 ^ 64 * 0 ≡ a + b + 0 → FrontGrown f low None r → Stepped true f a b r
   sum_stays e p = record {
-    sum = λ y t D s unmixed room. sum_column Stay p t D D s unmixed refl (omega arith) room;
+    sum = λ y t D s unmixed room. sum_column None p t D D s unmixed refl (omega arith) room;
     difference = λ y. absurd (true_false refl y);
   }
+
+  pub sum_steps : (out : Bool) → low + 2 ^ 64 * bit out ≡ a + b + bit false → FrontGrown f low (then_some out Rise) r → Stepped true f a b r
+  unfolding bit
+  sum_steps true e p = sum_rises e p
+  sum_steps false e p = sum_stays e p
 
   -- ---- of a difference
 
-  pub difference_stays : low + b + 0 ≡ a + 2 ^ 64 * 0 → FrontGrown f low Stay r → Stepped false f a b r
+  difference_stays : low + b + 0 ≡ a + 2 ^ 64 * 0 → FrontGrown f low None r → Stepped false f a b r
   difference_stays e p = record {
     sum = λ y. absurd (true_false y refl);
     difference = λ y t D s unmixed room h.
@@ -142,7 +149,7 @@ module _ (f r : Front) (a b low : ℕ) where
   }
 
   -- a borrow is met by what stands above, which is not 0
-  pub difference_falls : low < 2 ^ 64 → low + b + 0 ≡ a + 2 ^ 64 * 1 → FrontGrown f low Fall r → Stepped false f a b r
+  difference_falls : low < 2 ^ 64 → low + b + 0 ≡ a + 2 ^ 64 * 1 → FrontGrown f low (Some Fall) r → Stepped false f a b r
   difference_falls l e p = record {
     sum = λ y. absurd (true_false y refl);
     difference = λ y t D s unmixed room h.
@@ -151,3 +158,8 @@ module _ (f r : Front) (a b low : ℕ) where
         let ev : m * 2 ^ 64 + low ≡ D * 2 ^ 64 + a - b = omega arith in
         subst (λ (x : ℕ). ShowsFront r (suc t) x) ev (p t D m s unmixed moved (omega arith));
   }
+
+  pub difference_steps : low < 2 ^ 64 → (out : Bool) → low + b + bit false ≡ a + 2 ^ 64 * bit out → FrontGrown f low (then_some out Fall) r → Stepped false f a b r
+  unfolding bit
+  difference_steps l true e p = difference_falls l e p
+  difference_steps l false e p = difference_stays e p

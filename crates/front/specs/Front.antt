@@ -1,5 +1,5 @@
 -- What a front shows of the sum or difference D of the columns read, and one column more. Definitions only.
-use Rattle.std.specs.Prelude.{ℕ, suc, ◌+◌, ◌-◌, ◌*◌, ◌%◌, ◌^◌, ◌≤◌, ◌<◌, ◌≡◌, Bool, true, false}
+use Rattle.std.specs.Prelude.{Option, ℕ, suc, ◌+◌, ◌-◌, ◌*◌, ◌%◌, ◌^◌, ◌≤◌, ◌<◌, ◌≡◌, Bool, true, false}
 use Rattle.limb.specs.Carry.{bit}
 use Rattle.walk.specs.declared.state.Tail.{Tail}
 use Rattle.walk.specs.declared.change.Change.{Change}
@@ -24,12 +24,12 @@ pub record Kept (n t D : ℕ) : Type 0 where
   pub ones : n % 2 ≡ 1 → suc D ≡ suc n * 2 ^ (64 * t)
 
 -- the first column is changed by one, where it has room for that, and stands above a tail
-pub record Changed (carry : Bool) (limb : ℕ) (tail : Tail) (change : Change) (r : Front) : Type 0 where
+pub record Changed (carry : Bool) (limb : ℕ) (tail : Tail) (change : Option Change) (r : Front) : Type 0 where
   pub same_tail : r.tail ≡ tail
   pub first : (m : ℕ) → Moved change (bit carry * 2 ^ 64 + limb) m → m < 2 * 2 ^ 64 → first_of r ≡ m
 
 -- D becomes m, and `low` stands below it
-abbrev pub FrontGrown : Front → ℕ → Change → Front → Type 0
+abbrev pub FrontGrown : Front → ℕ → Option Change → Front → Type 0
 FrontGrown f low change r =
     (t D m : ℕ) → ShowsFront f t D → Unmixed f.tail → Moved change D m → m < 2 * 2 ^ (64 * suc t) → ShowsFront r (suc t) (m * 2 ^ 64 + low)
 

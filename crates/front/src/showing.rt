@@ -68,12 +68,12 @@ pub fn rest_kept(front: Front, bits: u64) -> Rest
 }
 
 // The first column changed by one, and a tail below it.
-fn changed(carry: bool, limb: u64, tail: Tail, change: Change) -> Front
+fn changed(carry: bool, limb: u64, tail: Tail, change: Option<Change>) -> Front
     ensures { Changed carry limb tail change result }
 {
     match change {
-        Change::Stay => Front { carry, limb, tail },
-        Change::Rise => {
+        None => Front { carry, limb, tail },
+        Some(Change::Rise) => {
             let s = limb::add_carry(limb, 1, false);
             Front {
                 carry: carry | s.carry,
@@ -81,7 +81,7 @@ fn changed(carry: bool, limb: u64, tail: Tail, change: Change) -> Front
                 tail,
             }
         }
-        Change::Fall => {
+        Some(Change::Fall) => {
             let d = limb::sub_borrow(limb, 1, false);
             Front {
                 carry: carry & !d.carry,
@@ -93,12 +93,12 @@ fn changed(carry: bool, limb: u64, tail: Tail, change: Change) -> Front
 }
 
 // One column more: its limb, and what it does to the column above.
-fn append(front: Front, low: u64, change: Change) -> Front
+fn append(front: Front, low: u64, change: Option<Change>) -> Front
     ensures { FrontGrown front low change result }
 {
     let tail = front.tail;
     let under = walk::pass_tail(tail, low, change);
-    let next = under.tail;
+    let next = under.left;
     let up = under.up;
     changed(front.carry, front.limb, next, up)
 }
@@ -109,14 +109,8 @@ pub fn step(same: bool, front: Front, a: u64, b: u64) -> Front
 {
     if same {
         let s = limb::add_carry(a, b, false);
-        if s.carry {
-            return append(front, s.limb, Change::Rise);
-        }
-        return append(front, s.limb, Change::Stay);
+        return append(front, s.limb, s.carry.then_some(Change::Rise));
     }
     let d = limb::sub_borrow(a, b, false);
-    if d.carry {
-        return append(front, d.limb, Change::Fall);
-    }
-    append(front, d.limb, Change::Stay)
+    append(front, d.limb, d.carry.then_some(Change::Fall))
 }

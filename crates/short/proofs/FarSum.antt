@@ -28,7 +28,8 @@ use Rattle.reports.specs.Counts.{used_of}
 use Rattle.reports.specs.Signed.{Signed}
 use Rattle.reports.proofs.Counts.{used_all, used_none}
 use Rattle.columns.proofs.Reading.{read_early}
-use Rattle.walk.specs.Change.{Fallen}
+use Rattle.walk.specs.Change.{ChangedFrom}
+use Rattle.walk.specs.declared.change.Change.TheVariants.{Fall}
 use Rattle.settle.specs.Rows.{row_of}
 use Rattle.settle.proofs.Units.{whole_less}
 use Rattle.settle.specs.declared.rows.Pair.{Pair}
@@ -235,7 +236,7 @@ restored_left p pair u v n room long far mode x y h after count lim e s negative
     same = rw sign (sym (restored_is p pair u v n room long far mode x y h after count lim s e))
 
 -- one taken off, as the code does it
-pub fallen_value : (u n : ℕ) (before after : List ℕ) (out : Bool) → 1 < n → 2 ^ 63 ≤ u → Below (2 ^ 64) after → value_of before ≡ head_in (2 ^ 64) false u 0 * (2 ^ 64) ^ (n - 2) → Fallen 0 before after out → suc (value_of after) ≡ u * (2 ^ 64) ^ (n - 1)
+pub fallen_value : (u n : ℕ) (before after : List ℕ) (out : Bool) → 1 < n → 2 ^ 63 ≤ u → Below (2 ^ 64) after → value_of before ≡ head_in (2 ^ 64) false u 0 * (2 ^ 64) ^ (n - 2) → ChangedFrom Fall 0 before after out → suc (value_of after) ≡ u * (2 ^ 64) ^ (n - 1)
 fallen_value u n before after out some large lim e f = number_falls before after out (u * (2 ^ 64) ^ (n - 1)) lim (e ∙ alone_worth u n some) f (go u ((2 ^ 64) ^ (n - 1)) large (rw (base_pow (n - 1)) (pow_pos (64 * (n - 1)))))
   where
     go : (u Q : ℕ) → 2 ^ 63 ≤ u → 0 < Q → 0 < u * Q

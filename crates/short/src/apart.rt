@@ -28,7 +28,7 @@ fn fill(p: u64, pair: Pair, u: u64, target: &mut [u64]) -> Filled
             depth: 1,
         };
     }
-    walk::fall(target, 0);
+    walk::change_from(target, 0, walk::Change::Fall);
     Filled {
         carry: false,
         guard: u64::MAX,

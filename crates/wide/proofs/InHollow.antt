@@ -24,7 +24,8 @@ use Rattle.decide.specs.Decide.{decide_at}
 use Rattle.place.specs.Placed.{run_number}
 use Rattle.kept.proofs.Reaching.{top_apart}
 use Rattle.columns.specs.Column.{read_to}
-use Rattle.walk.specs.Change.{Fallen}
+use Rattle.walk.specs.Change.{ChangedFrom}
+use Rattle.walk.specs.declared.change.Change.TheVariants.{Fall}
 use Rattle.walk.specs.declared.state.Window.{Window}
 use Rattle.columns.proofs.Reading.{read_lt, read_early}
 use Rattle.leap.specs.Leap.{Leapt}
@@ -77,7 +78,7 @@ module _ (first before : List ℕ) (a : Covers (length first) (length before)) w
       go false e h = omega arith
 
 -- one taken off a number that is not 0
-pub number_falls : (before after : List ℕ) (out : Bool) (D : ℕ) → Below (2 ^ 64) after → value_of before ≡ D → Fallen 0 before after out → 0 < D → suc (value_of after) ≡ D
+pub number_falls : (before after : List ℕ) (out : Bool) (D : ℕ) → Below (2 ^ 64) after → value_of before ≡ D → ChangedFrom Fall 0 before after out → 0 < D → suc (value_of after) ≡ D
 unfolding bit
 number_falls before after out D lim is f some = go out (value_of after) (value_of before) ((2 ^ 64) ^ length before) (rw (pow-zero (2 ^ 64)) at f.value) (rw f.same_length at (value_lt (2 ^ 64) after lim)) (rw is some) ∙ is
   where

@@ -28,7 +28,7 @@ fn fill_less(target: &mut [u64], first: &[u64], m: u64)
     ensures { (length target.new ≡ length target.old) × (0 < read_to (length target.old) 0 first.now → suc (value_of target.new) ≡ read_to (length target.old) 0 first.now) }
 {
     fill_first(target, first, m);
-    walk::fall(target, 0);
+    walk::change_from(target, 0, walk::Change::Fall);
 }
 
 // Fills the target with the first operand, and a little more below it, or a little less.

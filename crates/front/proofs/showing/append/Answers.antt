@@ -8,4 +8,4 @@ returns c =
     let g = c.args in
     let u = c.pass_tail-under in
     let h = c.changed in
-    column_below g.front h.result g.low g.change u.result.up u.result.tail (omega arith) u.ensures h.ensures
+    column_below g.front h.result g.low g.change u.result.up u.result.left (omega arith) u.ensures h.ensures

@@ -13,5 +13,5 @@ returns-then-pair c =
 pub returns : goal.returns
 returns c =
     let w = c.write in
-    let f = c.fall in
+    let f = c.change_from in
     (f.ensures.same_length ∙ w.ensures.0, refl, λ v o x y h. far_less c.args.p _ c.args.u v _ c.requires.0 c.requires.1 c.requires.2 o x y h _ (f.ensures.same_length ∙ w.ensures.0) (λ i. (c.type_inv.target i).fits) c.if-pair.false (fallen_value c.args.u _ _ _ _ (omega (arith, c.requires.1)) (first_large x y _ c.args.u v h) (λ i. (c.type_inv.target i).fits) w.ensures.1 f.ensures))

@@ -5,4 +5,4 @@ use Rattle.wide.proofs.hollow.fill_less.Goals as goal
 
 pub returns : goal.returns
 returns c =
-    (c.fall.ensures.same_length ∙ c.fill_first.ensures.0, number_falls _ _ _ _ (λ i. (c.type_inv.target i).fits) c.fill_first.ensures.1 c.fall.ensures)
+    (c.change_from.ensures.same_length ∙ c.fill_first.ensures.0, number_falls _ _ _ _ (λ i. (c.type_inv.target i).fits) c.fill_first.ensures.1 c.change_from.ensures)
