@@ -5,6 +5,7 @@ use mathlib.Core.List.{List}
 use Prim.Native.Nat.{ℕ, ◌+◌, ◌-◌, ◌*◌, ◌^◌, ◌<◌}
 use native.Mathlib.Omega.{arith}
 use lib.ListN.{length}
+use Rattle.std.specs.Prelude.{is_some}
 use Rattle.limb.proofs.Carry.{bit_le}
 use Rattle.limb.specs.Carry.{bit}
 use Rattle.numbers.specs.Operand.{Operand}
@@ -70,7 +71,7 @@ module _ (p : ℕ) (pair : Pair) (first second before after : List ℕ) (room : 
     leapt = filled x y course held.pair_is held.first_is held.second_is
 
     pub first_full : Full w after
-    first_full = record { fits = first_reached.shows.fits; filled = whole; unguarded = go w.guarded refl }
+    first_full = record { fits = first_reached.shows.fits; filled = whole; unguarded = go (is_some w.guard) refl }
       where
         whole : w.filled ≡ length after
         whole = leapt.full
@@ -78,9 +79,9 @@ module _ (p : ℕ) (pair : Pair) (first second before after : List ℕ) (room : 
         over : (a b c n : ℕ) → a ≡ 0 → b ≡ n → a + (b + 1) + c ≡ n → ⊥
         over a b c n f g h = omega arith
 
-        go : (b : Bool) → w.guarded ≡ b → b ≡ false
+        go : (b : Bool) → is_some w.guard ≡ b → b ≡ false
         go false e = refl
         go true e = absurd (over w.skipped w.filled first_reached.shows.below (length after) leapt.same_skip whole (columns_at e first_reached.shows.columns))
           where
-            columns_at : w.guarded ≡ true → w.skipped + shown_columns w + first_reached.shows.below ≡ length after → w.skipped + (w.filled + 1) + first_reached.shows.below ≡ length after
+            columns_at : is_some w.guard ≡ true → w.skipped + shown_columns w + first_reached.shows.below ≡ length after → w.skipped + (w.filled + 1) + first_reached.shows.below ≡ length after
             columns_at e h = rw (columns_guarded w after e) at h

@@ -5,6 +5,7 @@ use mathlib.Core.Bool.{Bool, true, false, not, cond, ◌&&◌, ◌||◌}
 use mathlib.Core.List.{List, ◌++◌}
 use Prim.Native.Nat.{ℕ, zero, suc, ◌+◌, ◌-◌, ◌*◌, ◌^◌, ◌≤◌, ◌<◌}
 use native.Mathlib.Nat.{pow-zero, le_trans, mul-le-mul_right}
+use Rattle.std.specs.Prelude.{is_some}
 use Rattle.walk.proofs.Walking.{tail_lt}
 use Rattle.descent.proofs.GoingDown.{room_some}
 use Rattle.descent.proofs.JudgingRange.{digits_fit, digits_some}
@@ -36,7 +37,7 @@ use Rattle.kept.proofs.Reaching.{top_apart}
 use Rattle.walk.specs.declared.state.Window.{Window}
 use Rattle.walk.specs.Change.{ChangedFrom}
 use Rattle.walk.specs.declared.change.Change.TheVariants.{Fall}
-use Rattle.walk.specs.Window.{head_of, TailIs, Shows}
+use Rattle.walk.specs.Window.{guard_of, head_of, TailIs, Shows}
 use Rattle.walk.proofs.Showing.{whole_shows, tailed_shows, columns_open, columns_guarded}
 use Rattle.bridge.proofs.Refine.{enough_digits, refine, refine_less, refine_borrow, scaled_up}
 use Rattle.checks.specs.Room.{Room}
@@ -112,13 +113,13 @@ module _ (mode : Mode) (p : ℕ) (negative : Bool) (unit : ℕ) (carry : Bool) (
 
 module _ (w : Window) (before after : List ℕ) (k D : ℕ) (s : Shows w before k D) (e : Cleared (length before - w.filled) before after) (pos : 0 < D) where
   abbrev N : ℕ
-  N = whole w.carry after w.guard
+  N = whole w.carry after (guard_of w)
 
   abbrev L : ℕ
   L = length before
 
   -- without a guard: D, moved up to the guard's place
-  pub open_run : w.guarded ≡ false → N ≡ D * 2 ^ (64 * (L + 1 - w.filled))
+  pub open_run : is_some w.guard ≡ false → N ≡ D * 2 ^ (64 * (L + 1 - w.filled))
   unfolding whole headed head_of
   open_run g =
       let i = whole_shows w before k D s g in
@@ -139,12 +140,12 @@ module _ (w : Window) (before after : List ℕ) (k D : ℕ) (s : Shows w before 
       moved c P F G x B H a b = let u = ap (λ (n : ℕ). c * n * B) a in let v = ap (λ (n : ℕ). (c * F + x) * n) b in omega arith
 
   -- with a guard: D without what lies below
-  pub guarded_run : w.guarded ≡ true → D ≡ N * 2 ^ (64 * s.below) + s.rest
+  pub guarded_run : is_some w.guard ≡ true → D ≡ N * 2 ^ (64 * s.below) + s.rest
   unfolding whole headed head_of
   guarded_run g =
       let i = tailed_shows w before k D s g in
       let z : L - w.filled ≡ 0 = rw i.full (none L) in
-      i.value ∙ sym (rw (e.size, e.value, z, pow-zero (2 ^ 64), i.full) (same (bit w.carry * 2 ^ (64 * L)) (value_of (drop 0 before)) (2 ^ 64) w.guard (2 ^ (64 * s.below)) s.rest))
+      i.value ∙ sym (rw (e.size, e.value, z, pow-zero (2 ^ 64), i.full) (same (bit w.carry * 2 ^ (64 * L)) (value_of (drop 0 before)) (2 ^ 64) (guard_of w) (2 ^ (64 * s.below)) s.rest))
     where
       none : (n : ℕ) → n - n ≡ 0
       none n = omega arith
@@ -153,7 +154,7 @@ module _ (w : Window) (before after : List ℕ) (k D : ℕ) (s : Shows w before 
       same a v B g K r = omega arith
 
   -- the run is as great as the target's weights, and greater where nothing lies below
-  guarded_lead : w.guarded ≡ true → 2 ^ (64 * L) * 2 ^ (64 * s.below) < D
+  guarded_lead : is_some w.guard ≡ true → 2 ^ (64 * L) * 2 ^ (64 * s.below) < D
   guarded_lead g =
       let i = tailed_shows w before k D s g in
       let f : 0 < w.filled = rw i.full s.fits.limbs in
@@ -163,7 +164,7 @@ module _ (w : Window) (before after : List ℕ) (k D : ℕ) (s : Shows w before 
       next : (f L b : ℕ) → f ≡ L → 64 * (f + 1 + b - 1) ≡ 64 * L + 64 * b
       next f L b e = omega arith
 
-  open_lead : w.guarded ≡ false → 2 ^ (64 * L) < N
+  open_lead : is_some w.guard ≡ false → 2 ^ (64 * L) < N
   open_lead g = rw (open_run g) (go w.filled refl s.fits.within (λ f. rw (columns_open w before g, (whole_shows w before k D s g).below) at (s.leads f)))
     where
       go : (f : ℕ) → w.filled ≡ f → w.filled ≤ L → (0 < w.filled → 2 ^ (64 * (w.filled + 0 - 1)) < D) → 2 ^ (64 * L) < D * 2 ^ (64 * (L + 1 - w.filled))
@@ -190,22 +191,22 @@ module _ (w : Window) (before after : List ℕ) (k D : ℕ) (s : Shows w before 
   rest_lt = tail_lt w.tail s.below s.rest s.tail
 
   pub lead_ge : 2 ^ (64 * L) ≤ N
-  lead_ge = go w.guarded refl
+  lead_ge = go (is_some w.guard) refl
     where
       cut : (P K n r d : ℕ) → P * K < d → d ≡ n * K + r → r < K → P ≤ n
       cut P K n r d a b c = elim (le_or_lt P n) [ inl h ↦ h | inr h ↦ absurd (let m : suc n * K ≤ P * K = mul-le-mul_right K h in omega arith) ]
 
-      go : (b : Bool) → w.guarded ≡ b → 2 ^ (64 * L) ≤ N
+      go : (b : Bool) → is_some w.guard ≡ b → 2 ^ (64 * L) ≤ N
       go true g = cut (2 ^ (64 * L)) (2 ^ (64 * s.below)) N R D (guarded_lead g) (guarded_run g) rest_lt
       go false g = let h = open_lead g in omega arith
 
   pub lead_gt : R ≡ 0 → 2 ^ (64 * L) < N
-  lead_gt z = go w.guarded refl
+  lead_gt z = go (is_some w.guard) refl
     where
       cut : (P K n r d : ℕ) → P * K < d → d ≡ n * K + r → r ≡ 0 → P < n
       cut P K n r d a b c = elim (le_or_lt n P) [ inl h ↦ absurd (let m : n * K ≤ P * K = mul-le-mul_right K h in omega arith) | inr h ↦ h ]
 
-      go : (b : Bool) → w.guarded ≡ b → 2 ^ (64 * L) < N
+      go : (b : Bool) → is_some w.guard ≡ b → 2 ^ (64 * L) < N
       go true g = cut (2 ^ (64 * L)) (2 ^ (64 * s.below)) N R D (guarded_lead g) (guarded_run g) z
       go false g = open_lead g
 
@@ -226,19 +227,19 @@ module _ (w : Window) (before after : List ℕ) (k D : ℕ) (s : Shows w before 
           over : (n a b : ℕ) → n < a → a ≤ b → b ≤ n → ⊥
           over n a b f g h = omega arith
 
-      guarded_unit : w.guarded ≡ true → top - 64 * k + 64 * s.below ≡ unit
+      guarded_unit : is_some w.guard ≡ true → top - 64 * k + 64 * s.below ≡ unit
       guarded_unit g = let i = tailed_shows w before k D s g in go w.skipped w.filled L s.below i.full i.columns
         where
           go : (s f L b : ℕ) → f ≡ L → s + (f + 1) + b ≡ k → top - 64 * k + 64 * b ≡ top - 64 * (s + L + 1)
           go s f L b e h = omega arith
 
-      open_unit : w.guarded ≡ false → top - 64 * k - 64 * (L + 1 - w.filled) ≡ unit
+      open_unit : is_some w.guard ≡ false → top - 64 * k - 64 * (L + 1 - w.filled) ≡ unit
       open_unit g = go w.skipped w.filled L s.fits.within (whole_shows w before k D s g).columns
         where
           go : (s f L : ℕ) → f ≤ L → s + f ≡ k → top - 64 * k - 64 * (L + 1 - f) ≡ top - 64 * (s + L + 1)
           go s f L a h = omega arith
 
-      open_room : w.guarded ≡ false → 64 * k + 64 * (L + 1 - w.filled) ≡ 64 * (w.skipped + L + 1)
+      open_room : is_some w.guard ≡ false → 64 * k + 64 * (L + 1 - w.filled) ≡ 64 * (w.skipped + L + 1)
       open_room g = go w.skipped w.filled L s.fits.within (whole_shows w before k D s g).columns
         where
           go : (s f L : ℕ) → f ≤ L → s + f ≡ k → 64 * k + 64 * (L + 1 - f) ≡ 64 * (s + L + 1)
@@ -246,13 +247,13 @@ module _ (w : Window) (before after : List ℕ) (k D : ℕ) (s : Shows w before 
 
       pub fixed_run : (more deep : Bool) → (more ≡ true → enough y p D ≡ true) → deep ≡ not (eqb R 0)
           → rounded y p (top - 64 * k - 1) negative (2 * D + bit more) ≡ rounded y p (unit - 1) negative (2 * N + bit (more || deep))
-      fixed_run more deep en d = go w.guarded refl
+      fixed_run more deep en d = go (is_some w.guard) refl
         where
           plain : (m : Bool) → m ≡ (m || false)
           plain true = refl
           plain false = refl
 
-          go : (b : Bool) → w.guarded ≡ b → rounded y p (top - 64 * k - 1) negative (2 * D + bit more) ≡ rounded y p (unit - 1) negative (2 * N + bit (more || deep))
+          go : (b : Bool) → is_some w.guard ≡ b → rounded y p (top - 64 * k - 1) negative (2 * D + bit more) ≡ rounded y p (unit - 1) negative (2 * N + bit (more || deep))
           go true g =
               ap (λ (n : ℕ). rounded y p (top - 64 * k - 1) negative (2 * n + bit more)) (guarded_run g)
               ∙ refine y p P_pos negative (top - 64 * k) N s.below R (omega arith) rest_lt more (digits N lead_ge)
@@ -285,7 +286,7 @@ module _ (w : Window) (before after : List ℕ) (k D : ℕ) (s : Shows w before 
         no_rest e = eqb-true R 0 (not-false (eqb R 0) (sym d ∙ e))
 
         -- with a guard nothing is added below it
-        module _ (g : w.guarded ≡ true) where
+        module _ (g : is_some w.guard ≡ true) where
           far_enough : p + 1 < 64 * k + 64 * 0
           far_enough = let i = tailed_shows w before k D s g in go w.skipped w.filled L s.below i.full i.columns (digits_fit p L end.room)
             where
@@ -320,7 +321,7 @@ module _ (w : Window) (before after : List ℕ) (k D : ℕ) (s : Shows w before 
           said = rw top_is says
 
           -- without a guard, the columns that the target has below
-          open_said : w.guarded ≡ false → a ≡ told (cond pair.same (2 * N + 1) (2 * N - 1))
+          open_said : is_some w.guard ≡ false → a ≡ told (cond pair.same (2 * N + 1) (2 * N - 1))
           open_said g =
               let j = L + 1 - w.filled in
               said j (subst (λ (n : ℕ). p + 1 < n) (sym (open_room g)) (far w.skipped L (digits_fit p L end.room))) (subst (λ (n : ℕ). n + 1 ≤ top) (sym (open_room g)) (next (64 * (w.skipped + L + 1)) top end.above))
@@ -333,13 +334,13 @@ module _ (w : Window) (before after : List ℕ) (k D : ℕ) (s : Shows w before 
               next : (a t : ℕ) → a < t → a + 1 ≤ t
               next a t h = omega arith
 
-          guarded_said : w.guarded ≡ true → a ≡ rounded y p (top - 64 * k - 64 * 0 - 1) negative (cond pair.same (2 * (D * 2 ^ (64 * 0)) + 1) (2 * (D * 2 ^ (64 * 0)) - 1))
+          guarded_said : is_some w.guard ≡ true → a ≡ rounded y p (top - 64 * k - 64 * 0 - 1) negative (cond pair.same (2 * (D * 2 ^ (64 * 0)) + 1) (2 * (D * 2 ^ (64 * 0)) - 1))
           guarded_said g = said 0 (far_enough g) (omega arith)
 
           pub hole_more : (pair.same || deep) ≡ true → a ≡ told (2 * N + 1)
-          hole_more h = go w.guarded pair.same deep refl refl refl h
+          hole_more h = go (is_some w.guard) pair.same deep refl refl refl h
             where
-              go : (u v z : Bool) → w.guarded ≡ u → pair.same ≡ v → deep ≡ z → (v || z) ≡ true → a ≡ told (2 * N + 1)
+              go : (u v z : Bool) → is_some w.guard ≡ u → pair.same ≡ v → deep ≡ z → (v || z) ≡ true → a ≡ told (2 * N + 1)
               go false true z g e f h = open_said g ∙ rw e refl
               go false false true g e f h = absurd (let i : R ≡ 0 = (whole_shows w before k D s g).rest in let j = some_rest f in omega arith)
               go false false false g e f h = absurd (let z : ◌≡◌ {A = ℕ} 0 1 = cc in omega arith)
@@ -348,9 +349,9 @@ module _ (w : Window) (before after : List ℕ) (k D : ℕ) (s : Shows w before 
               go true false false g e f h = absurd (let z : ◌≡◌ {A = ℕ} 0 1 = cc in omega arith)
 
           pub hole_less : (pair.same || deep) ≡ false → a ≡ told (2 * N - 1)
-          hole_less h = go w.guarded pair.same deep refl refl refl h
+          hole_less h = go (is_some w.guard) pair.same deep refl refl refl h
             where
-              go : (u v z : Bool) → w.guarded ≡ u → pair.same ≡ v → deep ≡ z → (v || z) ≡ false → a ≡ told (2 * N - 1)
+              go : (u v z : Bool) → is_some w.guard ≡ u → pair.same ≡ v → deep ≡ z → (v || z) ≡ false → a ≡ told (2 * N - 1)
               go u true z g e f h = absurd (let z : ◌≡◌ {A = ℕ} 0 1 = cc in omega arith)
               go u false true g e f h = absurd (let z : ◌≡◌ {A = ℕ} 0 1 = cc in omega arith)
               go false false false g e f h = open_said g ∙ rw e refl
@@ -381,13 +382,13 @@ module _ (mode : Mode) (p top : ℕ) (negative : Bool) (w : Window) (before afte
   pub hole_ready : Room p (length after) × (0 < place) × (place ≤ 2 * most_exponent)
   hole_ready = (room_after, place_some, place_near)
 
-  left_run : (by : Mode) (more : Bool) → 2 ^ (64 * length before) ≤ whole w.carry after w.guard → {exit : List ℕ} {r : Placed}
-      → r ≡ rounded_placed by p negative place w.carry after w.guard more → exit ≡ rounded_limbs by p negative place w.carry after w.guard more
-      → Left p (rounded (way by negative) p (place - 1) negative (2 * whole w.carry after w.guard + bit more)) exit r
-  left_run by more h a b = run_left by p negative place w.carry after w.guard more room_after lim end.fits.guard_fits place_some place_near (rw e.size h) a b
+  left_run : (by : Mode) (more : Bool) → 2 ^ (64 * length before) ≤ whole w.carry after (guard_of w) → {exit : List ℕ} {r : Placed}
+      → r ≡ rounded_placed by p negative place w.carry after (guard_of w) more → exit ≡ rounded_limbs by p negative place w.carry after (guard_of w) more
+      → Left p (rounded (way by negative) p (place - 1) negative (2 * whole w.carry after (guard_of w) + bit more)) exit r
+  left_run by more h a b = run_left by p negative place w.carry after (guard_of w) more room_after lim end.fits.guard_fits place_some place_near (rw e.size h) a b
 
   pub fixed_left : (more : Bool) → {exit : List ℕ} {r : Placed}
-      → r ≡ rounded_placed mode p negative place w.carry after w.guard (more || deep) → exit ≡ rounded_limbs mode p negative place w.carry after w.guard (more || deep)
+      → r ≡ rounded_placed mode p negative place w.carry after (guard_of w) (more || deep) → exit ≡ rounded_limbs mode p negative place w.carry after (guard_of w) (more || deep)
       → (k D : ℕ) → Shows w before k D → 0 < D → 64 * k < top → (more ≡ true → enough (way mode negative) p D ≡ true)
       → Left p (rounded (way mode negative) p (top - 64 * k - 1) negative (2 * D + bit more)) exit r
   fixed_left more {exit} {r} a b k D s pos above en =
@@ -396,7 +397,7 @@ module _ (mode : Mode) (p top : ℕ) (negative : Bool) (w : Window) (before afte
 
   module _ (pair : Pair) (top_is : top ≡ pair.top) (by : Mode) (by_is : way by negative ≡ hole_way (way mode negative) p pair) where
     pub hole_more_left : (pair.same || deep) ≡ true → {exit : List ℕ} {r : Placed}
-        → r ≡ rounded_placed by p negative place w.carry after w.guard true → exit ≡ rounded_limbs by p negative place w.carry after w.guard true
+        → r ≡ rounded_placed by p negative place w.carry after (guard_of w) true → exit ≡ rounded_limbs by p negative place w.carry after (guard_of w) true
         → (a : Answer) (k D : ℕ) → Shows w before k D → 0 < D → 64 * k < pair.top → HoleSays (way mode negative) p pair negative k D a → Left p a exit r
     unfolding bit
     hole_more_left h f g a k D s pos above says =
@@ -404,7 +405,7 @@ module _ (mode : Mode) (p top : ℕ) (negative : Bool) (w : Window) (before afte
         (left_run by true (lead_ge w before after k D s e pos) f g)
 
     pub hole_less_left : (pair.same || deep) ≡ false → {exit : List ℕ} {r : Placed}
-        → (2 ^ (64 * length after) < whole w.carry after w.guard → Left p (rounded (way by negative) p (place - 1) negative (2 * whole w.carry after w.guard - 1)) exit r)
+        → (2 ^ (64 * length after) < whole w.carry after (guard_of w) → Left p (rounded (way by negative) p (place - 1) negative (2 * whole w.carry after (guard_of w) - 1)) exit r)
         → (a : Answer) (k D : ℕ) → Shows w before k D → 0 < D → 64 * k < pair.top → HoleSays (way mode negative) p pair negative k D a → Left p a exit r
     hole_less_left h left a k D s pos above says =
         rw (hole_less w before after k D s e pos p top end (rw top_is above) (way by negative) negative pair deep (d s.below s.rest s.tail) top_is a (rw by_is says) h)

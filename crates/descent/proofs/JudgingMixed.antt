@@ -11,6 +11,7 @@ use lib.Dec.{ltb, leb, eqb}
 use lib.ListN.{length}
 use lib.Pow.{pow-add, pow_pos, mod-pow-add}
 use lib.Ieee.{size}
+use Rattle.std.specs.Prelude.{is_some}
 use Rattle.decide.proofs.Settled.{enough_longer}
 use Rattle.limb.proofs.Carry.{bit_le}
 use Rattle.limb.specs.Carry.{bit}
@@ -173,15 +174,15 @@ module _ (o : Mode) (p : ℕ) (x y : Operand) (w : Window) (target : List ℕ) (
   unfolding least_precision
   P = omega (arith, room.least)
 
-  guarded : w.guarded ≡ true
-  guarded = go w.guarded refl
+  guarded : is_some w.guard ≡ true
+  guarded = go (is_some w.guard) refl
     where
       clash : w.tail ≡ Empty → ⊥
       clash e = let z : ◌≡◌ {A = ℕ} 0 1 = cc in omega arith
 
-      go : (b : Bool) → w.guarded ≡ b → b ≡ true
+      go : (b : Bool) → is_some w.guard ≡ b → b ≡ true
       go true e = refl
-      go false e = absurd (clash (s.fits.untailed e).0)
+      go false e = absurd (clash (s.fits.untailed e))
 
   tail : TailIs Mixed s.below s.rest
   tail = subst (λ (t : Tail). TailIs t s.below s.rest) mixed s.tail

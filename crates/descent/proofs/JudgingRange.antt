@@ -12,6 +12,7 @@ use lib.ListN.{length}
 use lib.Pow.{pow_mono}
 use lib.Ieee.{size}
 use lib.Ieee.Digits.{size-lt}
+use Rattle.std.specs.Prelude.{is_some}
 use Rattle.limb.proofs.Carry.{bit_le}
 use Rattle.limb.specs.Carry.{bit}
 use Rattle.numbers.specs.Limits.{least_precision, most_precision, least_exponent, most_exponent, limbs_for}
@@ -71,29 +72,29 @@ module _ (k s f r : ℕ) (few : k ≤ 2 ^ 20) where
   same_guarded b n e h = let d : k - s - f - 1 ≡ b = omega arith in rw d h
 
 module _ (pair : Pair) (w : Window) (target : List ℕ) (k : ℕ) (m : Measured pair w target k) where
-  columns_are : (b : Bool) → w.guarded ≡ b → w.skipped + (w.filled + bit b) ≤ k
+  columns_are : (b : Bool) → is_some w.guard ≡ b → w.skipped + (w.filled + bit b) ≤ k
   unfolding shown_columns bit
   columns_are b e = subst (λ (g : Bool). w.skipped + (w.filled + bit g) ≤ k) e m.columns
 
   pub filled_room : w.filled ≤ k - w.skipped
-  filled_room = omega (arith, columns_are w.guarded refl)
+  filled_room = omega (arith, columns_are (is_some w.guard) refl)
 
-  pub guard_room : w.guarded ≡ true → 1 ≤ k - w.skipped - w.filled
+  pub guard_room : is_some w.guard ≡ true → 1 ≤ k - w.skipped - w.filled
   unfolding bit
   guard_room e = omega (arith, columns_are true e)
 
   module _ (r : ℕ) (d : ShowsDigits w target r) where
-    most_are : (b : Bool) → w.guarded ≡ b → r ≤ 64 * w.filled + 64 * bit b + 1
+    most_are : (b : Bool) → is_some w.guard ≡ b → r ≤ 64 * w.filled + 64 * bit b + 1
     most_are b e = subst (λ (g : Bool). r ≤ 64 * w.filled + 64 * bit g + 1) e (omega (arith, d.most, bit_le w.carry))
 
-    pub digits_guarded : w.guarded ≡ true → (r + 64 * (k - w.skipped - w.filled - 1) ≤ 2 ^ 30) × ((D : ℕ) → Shows w target k D → r + 64 * (k - w.skipped - w.filled - 1) ≡ size D)
+    pub digits_guarded : is_some w.guard ≡ true → (r + 64 * (k - w.skipped - w.filled - 1) ≤ 2 ^ 30) × ((D : ℕ) → Shows w target k D → r + 64 * (k - w.skipped - w.filled - 1) ≡ size D)
     unfolding bit
     digits_guarded e = (
       all_guarded k w.skipped w.filled r m.modest.columns (columns_are true e) (most_are true e),
       λ D s. same_guarded k w.skipped w.filled r m.modest.columns s.below (size D) (rw (columns_guarded w target e) at s.columns) (d.exact k D s),
     )
 
-    pub digits_open : w.guarded ≡ false → (r + 64 * (k - w.skipped - w.filled) ≤ 2 ^ 30) × ((D : ℕ) → Shows w target k D → r + 64 * (k - w.skipped - w.filled) ≡ size D)
+    pub digits_open : is_some w.guard ≡ false → (r + 64 * (k - w.skipped - w.filled) ≤ 2 ^ 30) × ((D : ℕ) → Shows w target k D → r + 64 * (k - w.skipped - w.filled) ≡ size D)
     unfolding bit
     digits_open e =
         let c : w.skipped + (w.filled + 0) ≤ k = columns_are false e in (
@@ -105,7 +106,7 @@ module _ (pair : Pair) (w : Window) (target : List ℕ) (k : ℕ) (m : Measured 
 
 module _ (p : ℕ) (w : Window) (target : List ℕ) (k D : ℕ) (s : Shows w target k D) (room : Room p (length target)) where
   -- a tail begins below p digits
-  pub guarded_long : w.guarded ≡ true → p + 64 * s.below < size D
+  pub guarded_long : is_some w.guard ≡ true → p + 64 * s.below < size D
   guarded_long g =
       let c : 64 * (w.filled + s.below) ≡ 64 * (shown_columns w + s.below - 1) = omega (arith, columns_guarded w target g) in
       let f = s.fits.full g in
@@ -116,9 +117,9 @@ module _ (p : ℕ) (w : Window) (target : List ℕ) (k D : ℕ) (s : Shows w tar
       go m n a b h = elim (le_or_lt n m) [ inl g ↦ absurd (omega (arith, pow_mono {i = n} {j = m} g)) | inr g ↦ omega arith ]
 
   above_tail : (c : ℕ) → c ≤ p → c ≤ size D → c + 64 * s.below ≤ size D
-  above_tail c h l = go w.guarded refl
+  above_tail c h l = go (is_some w.guard) refl
     where
-      go : (b : Bool) → w.guarded ≡ b → c + 64 * s.below ≤ size D
+      go : (b : Bool) → is_some w.guard ≡ b → c + 64 * s.below ≤ size D
       go true e = omega (arith, guarded_long e)
       go false e = omega (arith, (whole_shows w target k D s e).below)
 

@@ -1,4 +1,5 @@
 -- The course of a walk, and what is known where it stops. Definitions only.
+use Rattle.std.specs.Prelude.{is_some}
 use Rattle.std.specs.Prelude.{ℕ, suc, ◌+◌, ◌-◌, ◌*◌, ◌%◌, ◌^◌, ◌≤◌, ◌<◌, ◌≡◌, Bool, true, false, cond, List, ltb, length}
 use Rattle.std.specs.Float.Ieee.{size}
 use Rattle.limb.specs.Carry.{bit}
@@ -139,7 +140,7 @@ pub record Sighted (pair : Pair) (first from n : ℕ) : Type 0 where
 pub record Full (w : Window) (target : List ℕ) : Type 0 where
   pub fits : Fits w target
   pub filled : w.filled ≡ length target
-  pub unguarded : w.guarded ≡ false
+  pub unguarded : is_some w.guard ≡ false
 
 -- D has more than p digits, and what is below them lies inside a half, with a unit to spare above
 pub record Inside (p D : ℕ) : Type 0 where

@@ -63,16 +63,8 @@ fn fixed(
     let unit = top - 64 * (w.skipped + n as u64 + 1);
     let tail = w.tail;
     let deep = holds_more(tail);
-    place::round_run(
-        negative,
-        w.carry,
-        target,
-        w.guard,
-        more | deep,
-        unit,
-        p,
-        mode,
-    )
+    let guard = w.guard.unwrap_or(0);
+    place::round_run(negative, w.carry, target, guard, more | deep, unit, p, mode)
 }
 
 // The mode by which a hole is rounded: from a tie, to the side on which the second operand lies.
@@ -129,10 +121,11 @@ fn hole(mode: Mode, negative: bool, p: u64, pair: Pair, w: Window, target: &mut 
     let by = hole_mode(mode, negative, p, pair);
     let tail = w.tail;
     let deep = holds_more(tail);
+    let guard = w.guard.unwrap_or(0);
     if pair.same | deep {
-        return place::round_run(negative, w.carry, target, w.guard, true, unit, p, by);
+        return place::round_run(negative, w.carry, target, guard, true, unit, p, by);
     }
-    less(by, negative, p, unit, w.carry, w.guard, target)
+    less(by, negative, p, unit, w.carry, guard, target)
 }
 
 // A refusal: the target is cleared.

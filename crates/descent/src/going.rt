@@ -51,7 +51,7 @@ fn digits_in(w: Window, target: &[u64], pair: Pair, k: u64) -> u64
     let digits = remnant::digits_of(w, target);
     let filled = w.filled;
     let below = k - w.skipped - (filled as u64);
-    if w.guarded {
+    if w.guard.is_some() {
         return digits + 64 * (below - 1);
     }
     digits + 64 * below

@@ -71,9 +71,11 @@ pub fn rest_kept(front: Front, bits: u64) -> Rest
 fn changed(carry: bool, limb: u64, tail: Tail, change: Option<Change>) -> Front
     ensures { Changed carry limb tail change result }
 {
-    match change {
-        None => Front { carry, limb, tail },
-        Some(Change::Rise) => {
+    let Some(by_one) = change else {
+        return Front { carry, limb, tail };
+    };
+    match by_one {
+        Change::Rise => {
             let s = limb::add_carry(limb, 1, false);
             Front {
                 carry: carry | s.carry,
@@ -81,7 +83,7 @@ fn changed(carry: bool, limb: u64, tail: Tail, change: Option<Change>) -> Front
                 tail,
             }
         }
-        Some(Change::Fall) => {
+        Change::Fall => {
             let d = limb::sub_borrow(limb, 1, false);
             Front {
                 carry: carry & !d.carry,

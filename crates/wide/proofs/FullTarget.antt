@@ -8,6 +8,7 @@ use borrow.Author.Tests.{ltb-true}
 use lib.Count.{count_leading_zeros}
 use lib.Dec.{ltb}
 use lib.ListN.{length, get_or}
+use Rattle.std.specs.Prelude.{is_some}
 use Rattle.limb.specs.Value.{value_of, Below}
 use Rattle.limb.specs.Carry.{bit}
 use Rattle.numbers.specs.Limits.{most_precision, limbs_for}
@@ -175,7 +176,7 @@ module _ (p : ℕ) (pair : Pair) (first second before after : List ℕ) (w : Win
 -- ---- its digits
 
 module _ (w : Window) (target : List ℕ) (lim : Below (2 ^ 64) target) (f : Full w target) where
-  plain : bit w.guarded ≡ 0
+  plain : bit (is_some w.guard) ≡ 0
   plain = ap bit f.unguarded ∙ (unfold bit in refl)
 
   pub full_carry : w.carry ≡ true → ShowsDigits w target (64 * length target + 1)

@@ -5,4 +5,4 @@ use Rattle.descent.proofs.ending.fixed.Goals as goal
 pub returns : goal.returns
 returns c =
     let a = c.args in
-    fixed_left a.mode a.p a.top a.negative a.w a.target.now _ c.requires c.clear_low.ensures (λ i. (c.slice_known-2-1.given i).fits) _ c.holds_more-deep.ensures a.more c.round_run.ensures.value c.round_run.ensures.target_after
+    fixed_left a.mode a.p a.top a.negative a.w a.target.now _ c.requires c.clear_low.ensures (λ i. (c.slice_known-2-1.given i).fits) _ c.holds_more-deep.ensures a.more (rw c.unwrap_or-guard.ensures at c.round_run.ensures.value) (rw c.unwrap_or-guard.ensures at c.round_run.ensures.target_after)

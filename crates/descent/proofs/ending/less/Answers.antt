@@ -10,4 +10,4 @@ returns-then-guard-ne0 c =
 pub returns : goal.returns
 returns c =
     let a = c.args in
-    less_fall a.mode a.p a.unit a.negative a.carry a.target.now c.requires.0 c.requires.1 c.requires.2 a.guard c.if-guard-ne0.false _ _ c.fall-borrow.ensures (λ i. (c.slice_known-2-1.given i).fits) c.round_run-2.ensures.value c.round_run-2.ensures.target_after
+    less_fall a.mode a.p a.unit a.negative a.carry a.target.now c.requires.0 c.requires.1 c.requires.2 a.guard c.if-guard-ne0.false _ _ c.change_from-borrow.ensures (λ i. (c.slice_known-2-1.given i).fits) c.round_run-2.ensures.value c.round_run-2.ensures.target_after
