@@ -8,43 +8,37 @@ use native.Mathlib.Omega.{arith}
 use lib.ListN.{length}
 use Rattle.limb.specs.Value.{value_of, Below}
 use Rattle.limb.specs.Carry.{bit}
+use Rattle.limb.specs.Column.{Column, Joins, Summed, TakenFrom}
 use Rattle.limb.proofs.Value.{value_lt, base_pow}
 use Rattle.columns.specs.Column.{read_to, column_of}
 use Rattle.columns.proofs.Reading.{read_more}
-use Rattle.leap.specs.Leap.{SumColumns, DifferenceColumns}
+use Rattle.leap.specs.Leap.{Columns}
+use Rattle.leap.specs.Runs.{Runs, GuardedBy}
+use Rattle.leap.specs.declared.guarded.Guarded.{Guarded}
 use Rattle.leap.proofs.Leaping.{all_low}
 
 one_more : (k gap : ℕ) (l : List ℕ) → read_to (k + 1) gap l ≡ read_to k gap l * 2 ^ 64 + column_of k gap l
 one_more k gap l = ap (λ (m : ℕ). read_to m gap l) (add-one k) ∙ read_more gap l k
 
-module _ (gap k : ℕ) (first second before after : List ℕ) (hx : Below (2 ^ 64) first) (hy : Below (2 ^ 64) second) (all : k ≡ length before) (guard : ℕ) (c out same : Bool) where
-  abbrev X : ℕ
-  X = read_to (k + 1) 0 first
+-- the columns before the guard, and the guard below them
+pub guard_below : (column : Column) → Joins column → (gap k : ℕ) (first second before after : List ℕ) → Below (2 ^ 64) first → Below (2 ^ 64) second → k ≡ length before → (guard : ℕ) (c out : Bool)
+    → column (2 ^ 64) (column_of k gap second) (column_of k 0 first) (bit false) guard (bit c) → Columns column (read_to k 0 first) (read_to k gap second) c (length before) after out
+    → column (2 ^ 64 * 2 ^ (64 * length after)) (read_to (k + 1) gap second) (read_to (k + 1) 0 first) 0 (guard + 2 ^ 64 * value_of after) (bit out)
+guard_below column joins gap k first second before after hx hy all guard c out l u =
+    let z : bit false ≡ 0 = unfold bit in refl in
+    let v = rw (all_low k gap second hy, all_low k 0 first hx) at (rw (sym all) at u.value) in
+    let one = joins (2 ^ 64) (2 ^ (64 * k)) (column_of k gap second) (column_of k 0 first) (bit false) guard (bit c) (read_to k gap second) (read_to k 0 first) (value_of after) (bit out) l v in
+    let x : column_of k 0 first + 2 ^ 64 * read_to k 0 first ≡ read_to (k + 1) 0 first = omega (arith, one_more k 0 first) in
+    let y : column_of k gap second + 2 ^ 64 * read_to k gap second ≡ read_to (k + 1) gap second = omega (arith, one_more k gap second) in
+    rw (u.size, sym all) (rw (x, y, z) at one)
 
-  abbrev Y : ℕ
-  Y = read_to (k + 1) gap second
+module _ (X Y : ℕ) (after : List ℕ) (r : Guarded) (same : Bool) where
+  pub sum_guarded : same ≡ true → GuardedBy Summed X Y after r → Runs (cond same (X + Y) (X - Y)) after r
+  sum_guarded s e = rw s (omega arith)
 
-  pub sum_guarded : same ≡ true → guard + 2 ^ 64 * bit c ≡ column_of k 0 first + column_of k gap second + bit false
-      → SumColumns (read_to k 0 first) (read_to k gap second) c (length before) after out
-      → cond same (X + Y) (X - Y) ≡ (bit out * 2 ^ (64 * length after) + value_of after) * 2 ^ 64 + guard
-  sum_guarded s l u =
-      let z : bit false ≡ 0 = unfold bit in refl in
-      let v = rw (all_low k 0 first hx, all_low k gap second hy) at (rw (sym all) at u.value) in
-      rw (s, u.size, sym all) (join (column_of k 0 first) (column_of k gap second) (read_to k 0 first) (read_to k gap second) (2 ^ (64 * k)) (bit out) (bit c) (value_of after) (one_more k 0 first) (one_more k gap second) v (omega (arith, l, z)))
+  pub difference_guarded : same ≡ false → r.guard < 2 ^ 64 → Below (2 ^ 64) after → Y ≤ X → GuardedBy TakenFrom X Y after r → Runs (cond same (X + Y) (X - Y)) after r
+  difference_guarded s fits h le e = rw s (go (2 ^ (64 * length after)) (value_of after) r.guard r.carry fits (rw (base_pow (length after)) at (value_lt (2 ^ 64) after h)) e)
     where
-      join : (a d x y P o b v : ℕ) → X ≡ x * 2 ^ 64 + a → Y ≡ y * 2 ^ 64 + d → v + P * o ≡ x + y + b → guard + 2 ^ 64 * b ≡ a + d → X + Y ≡ (o * P + v) * 2 ^ 64 + guard
-      join a d x y P o b v e f g h = omega arith
-
-  pub difference_guarded : same ≡ false → guard < 2 ^ 64 → guard + column_of k gap second + bit false ≡ column_of k 0 first + 2 ^ 64 * bit c
-      → DifferenceColumns (read_to k 0 first) (read_to k gap second) c (length before) after out → Below (2 ^ 64) after → Y ≤ X
-      → cond same (X + Y) (X - Y) ≡ (bit false * 2 ^ (64 * length after) + value_of after) * 2 ^ 64 + guard
-  difference_guarded s fits l u h o =
-      let z : bit false ≡ 0 = unfold bit in refl in
-      let v = rw (all_low k 0 first hx, all_low k gap second hy) at (rw (sym all) at u.value) in
-      let lt : value_of after < 2 ^ (64 * k) = rw (base_pow k) at (rw (u.size ∙ sym all) at (value_lt (2 ^ 64) after h)) in
-      rw (s, u.size, sym all, z) (join (column_of k 0 first) (column_of k gap second) (read_to k 0 first) (read_to k gap second) (2 ^ (64 * k)) out (bit c) (value_of after) (one_more k 0 first) (one_more k gap second) v (omega (arith, l, z)) lt)
-    where
-      join : (a d x y P : ℕ) (out : Bool) (b v : ℕ) → X ≡ x * 2 ^ 64 + a → Y ≡ y * 2 ^ 64 + d → v + y + b ≡ x + P * bit out → guard + d ≡ a + 2 ^ 64 * b → v < P
-          → X - Y ≡ (0 * P + v) * 2 ^ 64 + guard
-      join a d x y P true b v e f g h lt = let b : bit true ≡ 1 = unfold bit in refl in absurd (omega (arith, rw b at g))
-      join a d x y P false b v e f g h lt = let b : bit false ≡ 0 = unfold bit in refl in omega (arith, rw b at g)
+      go : (P v g : ℕ) (out : Bool) → g < 2 ^ 64 → v < P → g + 2 ^ 64 * v + Y + 0 ≡ X + 2 ^ 64 * P * bit out → X - Y ≡ (bit out * P + v) * 2 ^ 64 + g
+      go P v g true a b e = let o : bit true ≡ 1 = unfold bit in refl in absurd (omega (arith, rw o at e))
+      go P v g false a b e = let o : bit false ≡ 0 = unfold bit in refl in rw o (omega (arith, rw o at e))

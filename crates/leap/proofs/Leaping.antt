@@ -12,16 +12,17 @@ use lib.Seq.{get_or-drop, get_or-set_same}
 use borrow.Rule.Slice.PartMut.{mid_of, put_mid, same_len_mid, mid_len, take_put}
 use Rattle.limb.specs.Value.{value_of, value_in, Below}
 use Rattle.limb.specs.Carry.{bit}
+use Rattle.limb.specs.Column.{Column, Joins, Summed, TakenFrom}
 use Rattle.limb.proofs.Value.{value_nil, value_split, value_take, value_lt, value_shr, value_low, base_pow}
 use Rattle.shifts.specs.LowLimbs.{LowLimbs}
-use Rattle.run.specs.Sum.{Added, Reversed}
+use Rattle.run.specs.Walk.{Stepped}
 use Rattle.parts.proofs.Parts.{drop_put}
 use Rattle.columns.specs.Column.{read_to, column_of}
 use Rattle.walk.specs.Window.{head_of, Shows}
 use Rattle.walk.specs.declared.state.Window.{Window}
 use Rattle.walk.proofs.Showing.{show_open}
 use Rattle.columns.proofs.Reading.{read_lt, read_more, read_fewer, column_lt}
-use Rattle.leap.specs.Leap.{Leap, SumColumns, DifferenceColumns, Leapt, leapt_to}
+use Rattle.leap.specs.Leap.{Leap, Columns, Leapt, leapt_to}
 
 -- ---- columns as limbs
 
@@ -63,11 +64,8 @@ module _ (x k n : ℕ) (first part after : List ℕ) (h : Below (2 ^ 64) first) 
   top : (2 ^ 64) ^ length part ≡ 2 ^ (64 * n)
   top = rw low.size (base_pow n)
 
-  pub summed : (carry out : Bool) → Added part (drop (length first - k) first) carry after out → SumColumns (read_to k 0 first) x carry n after out
-  summed carry out a = record { size = a.same_length ∙ low.size; value = omega (arith, rw top at a.value, met, there) }
-
-  pub differed : (borrow out : Bool) → Reversed part (drop (length first - k) first) borrow after out → DifferenceColumns (read_to k 0 first) x borrow n after out
-  differed borrow out a = record { size = a.same_length ∙ low.size; value = omega (arith, rw top at a.value, met, there) }
+  pub columns_stepped : (column : Column) (carry out : Bool) → Stepped column part (drop (length first - k) first) carry after out → Columns column (read_to k 0 first) x carry n after out
+  columns_stepped column carry out a = record { size = a.same_length ∙ low.size; value = rw (top, there, met) at a.value }
 
 -- ---- the last column alone, and those above it
 
@@ -118,22 +116,18 @@ module _ (gap k : ℕ) (first second t part : List ℕ) (s : ℕ) (c out : Bool)
   raise : 2 ^ (64 * suc n) ≡ 2 ^ (64 * n) * 2 ^ 64
   raise = ap (λ (m : ℕ). 2 ^ m) (omega arith) ∙ pow-add 2 (64 * n) 64
 
-  pub sum_joined : s + 2 ^ 64 * bit c ≡ column_of k 0 first + column_of k gap second + bit false
-      → SumColumns (read_to k 0 first) (read_to k gap second) c (length (mid_of 1 (length (set t 0 s) - 1) (set t 0 s))) part out
-      → SumColumns (read_to (k + 1) 0 first) (read_to (k + 1) gap second) false (length t) (put_mid 1 (length (set t 0 s) - 1) (set t 0 s) part) out
-  sum_joined l u =
-      let v = rw (mid_size t part s h) at u.value in record {
+  pub columns_joined : (column : Column) → Joins column → column (2 ^ 64) (column_of k gap second) (column_of k 0 first) (bit false) s (bit c)
+      → Columns column (read_to k 0 first) (read_to k gap second) c (length (mid_of 1 (length (set t 0 s) - 1) (set t 0 s))) part out
+      → Columns column (read_to (k + 1) 0 first) (read_to (k + 1) gap second) false (length t) (put_mid 1 (length (set t 0 s) - 1) (set t 0 s) part) out
+  columns_joined column joins l u =
+      let v = rw (mid_size t part s h) at u.value in
+      let one = joins (2 ^ 64) (2 ^ (64 * n)) (column_of k gap second) (column_of k 0 first) (bit false) s (bit c) (read_to k gap second % 2 ^ (64 * n)) (read_to k 0 first % 2 ^ (64 * n)) (value_of part) (bit out) l v in
+      let x : column_of k 0 first + 2 ^ 64 * (read_to k 0 first % 2 ^ (64 * n)) ≡ read_to (k + 1) 0 first % 2 ^ (64 * suc n) = omega (arith, column_more 0 k n first) in
+      let y : column_of k gap second + 2 ^ 64 * (read_to k gap second % 2 ^ (64 * n)) ≡ read_to (k + 1) gap second % 2 ^ (64 * suc n) = omega (arith, column_more gap k n second) in
+      let weight : 2 ^ 64 * 2 ^ (64 * n) ≡ 2 ^ (64 * suc n) = omega (arith, raise) in
+      record {
         size = joined_size t part s h (u.size ∙ mid_size t part s h);
-        value = rw (sym whole) (omega (arith, joined_value t part s h, column_more 0 k n first, column_more gap k n second, l, v, ap (λ (m : ℕ). m * bit out) raise));
-      }
-
-  pub difference_joined : s + column_of k gap second + bit false ≡ column_of k 0 first + 2 ^ 64 * bit c
-      → DifferenceColumns (read_to k 0 first) (read_to k gap second) c (length (mid_of 1 (length (set t 0 s) - 1) (set t 0 s))) part out
-      → DifferenceColumns (read_to (k + 1) 0 first) (read_to (k + 1) gap second) false (length t) (put_mid 1 (length (set t 0 s) - 1) (set t 0 s) part) out
-  difference_joined l u =
-      let v = rw (mid_size t part s h) at u.value in record {
-        size = joined_size t part s h (u.size ∙ mid_size t part s h);
-        value = rw (sym whole) (omega (arith, joined_value t part s h, column_more 0 k n first, column_more gap k n second, l, v, ap (λ (m : ℕ). m * bit out) raise));
+        value = rw (sym whole, joined_value t part s h) (rw (weight, x, y) at one);
       }
 
   -- of one operand alone
@@ -194,7 +188,7 @@ module _ (from k : ℕ) (first second before after : List ℕ) (gap : ℕ) (hx :
     all : length before ≡ k + 1
     all = omega (arith, leap.room)
 
-    pub sum_leapt : (out : Bool) → w ≡ leapt_to from out (length after) → SumColumns X Y false (length before) after out → Leapt from (k + 1) (X + Y) before after w
+    pub sum_leapt : (out : Bool) → w ≡ leapt_to from out (length after) → Columns Summed X Y false (length before) after out → Leapt from (k + 1) (X + Y) before after w
     sum_leapt out e u = leapt from k before after leap u.size (X + Y) out w e
         (let v = rw (all, all_low (k + 1) 0 first hx, all_low (k + 1) gap second hy) at u.value in
         let z : bit false ≡ 0 = unfold bit in refl in
@@ -206,7 +200,7 @@ module _ (from k : ℕ) (first second before after : List ℕ) (gap : ℕ) (hx :
         let z : bit false ≡ 0 = unfold bit in refl in
         omega (arith, v, ap (λ (m : ℕ). m * 2 ^ (64 * length after)) z))
 
-  pub difference_leapt : (out : Bool) → w ≡ leapt_to from false (length after) → Below (2 ^ 64) after → DifferenceColumns X Y false (length before) after out
+  pub difference_leapt : (out : Bool) → w ≡ leapt_to from false (length after) → Below (2 ^ 64) after → Columns TakenFrom X Y false (length before) after out
       → read_to from gap second ≡ read_to from 0 first → Y ≤ X → Leapt from (k + 1) (X - Y) before after w
   difference_leapt out e h u alike lt = leapt from k before after leap u.size (X - Y) false w e
       (let z : bit false ≡ 0 = unfold bit in refl in

@@ -2,6 +2,7 @@
 use Rattle.std.specs.Prelude.{ℕ, ◌+◌, ◌-◌, ◌*◌, ◌%◌, ◌^◌, ◌≤◌, ◌<◌, ◌≡◌, Bool, None, List, length}
 use Rattle.limb.specs.Carry.{bit}
 use Rattle.limb.specs.Value.{value_of}
+use Rattle.limb.specs.Column.{Column}
 use Rattle.walk.specs.Window.{head_of, Shows}
 use Rattle.walk.specs.declared.state.Window.{Window}
 use Rattle.walk.specs.declared.state.Tail.TheVariants.{Empty}
@@ -18,14 +19,10 @@ pub record Leap (from k n : ℕ) : Type 0 where
   pub room : from + n ≡ k + 1
   pub few : k ≤ 2 ^ 20
 
--- the lowest n limbs of the sum of two numbers and a carry, and of their difference less a borrow
-pub record SumColumns (x y : ℕ) (carry : Bool) (n : ℕ) (after : List ℕ) (out : Bool) : Type 0 where
+-- the lowest n limbs of two numbers, x in the first operand and y in the second, as one column of a sum or a difference
+pub record Columns (column : Column) (x y : ℕ) (carry : Bool) (n : ℕ) (after : List ℕ) (out : Bool) : Type 0 where
   pub size : length after ≡ n
-  pub value : value_of after + 2 ^ (64 * n) * bit out ≡ x % 2 ^ (64 * n) + y % 2 ^ (64 * n) + bit carry
-
-pub record DifferenceColumns (x y : ℕ) (borrow : Bool) (n : ℕ) (after : List ℕ) (out : Bool) : Type 0 where
-  pub size : length after ≡ n
-  pub value : value_of after + y % 2 ^ (64 * n) + bit borrow ≡ x % 2 ^ (64 * n) + 2 ^ (64 * n) * bit out
+  pub value : column (2 ^ (64 * n)) (y % 2 ^ (64 * n)) (x % 2 ^ (64 * n)) (bit carry) (value_of after) (bit out)
 
 -- limbs filled, and nothing below them
 unfoldable pub leapt_to : ℕ → Bool → ℕ → Window

@@ -11,11 +11,12 @@
 ghost use Rattle.std.specs.Prelude.{◌≡◌, false, ◌+◌, ◌-◌, ◌≤◌, ◌<◌, length};
 ghost use Rattle.shifts.specs.LowLimbs.{LowLimbs};
 ghost use Rattle.columns.specs.Column.{read_to};
-ghost use Rattle.leap.specs.Leap.{Within, Leap, SumColumns, DifferenceColumns, Leapt, leapt_to};
+ghost use Rattle.leap.specs.Leap.{Within, Leap, Columns, Leapt, leapt_to};
 
 mod guarded; // guarded.rt: one column more than fill the target
 
 pub use guarded::{Guarded, guarded_columns};
+use limb::{Adding, Step, TakingFrom};
 use walk::{Tail, Window};
 
 // The columns of an operand before column k, as many as the target has limbs.
@@ -27,8 +28,8 @@ fn columns_into(target: &mut [u64], limbs: &[u64], gap: u64, k: u64)
     shifts::shift_down_into(target, limbs, all - 64 * (k as usize));
 }
 
-// The sum of the columns before column k, with a carry in. Returns the carry out.
-fn sum_above(
+// The columns before column k, of both operands: what a step makes of them with a carry in. Returns the carry out.
+fn columns_above<S: Step>(
     target: &mut [u64],
     first: &[u64],
     second: &[u64],
@@ -37,30 +38,14 @@ fn sum_above(
     carry: bool,
 ) -> bool
     requires { Within k 0 first.now × Within k gap second.now }
-    ensures { SumColumns (read_to k 0 first.now) (read_to k gap second.now) carry (length target.old) target.new result }
+    ensures { Columns S.column (read_to k 0 first.now) (read_to k gap second.now) carry (length target.old) target.new result }
 {
     columns_into(target, second, gap, k);
-    run::add_from(target, first, first.len() - (k as usize), carry)
+    run::step_from::<S>(target, first, first.len() - (k as usize), carry)
 }
 
-// The first operand's columns before column k less the second's and a borrow. Returns the borrow out.
-fn difference_above(
-    target: &mut [u64],
-    first: &[u64],
-    second: &[u64],
-    gap: u64,
-    k: u64,
-    borrow: bool,
-) -> bool
-    requires { Within k 0 first.now × Within k gap second.now }
-    ensures { DifferenceColumns (read_to k 0 first.now) (read_to k gap second.now) borrow (length target.old) target.new result }
-{
-    columns_into(target, second, gap, k);
-    run::rsub_from(target, first, first.len() - (k as usize), borrow)
-}
-
-// The sum of the columns to column k and with it.
-fn sum_columns(
+// The columns to column k and with it.
+fn columns_to<S: Step>(
     target: &mut [u64],
     first: &[u64],
     m: u64,
@@ -70,33 +55,13 @@ fn sum_columns(
     k: u64,
 ) -> bool
     requires { (0 < length target.old) × Within k 0 first.now × Within k gap second.now }
-    ensures { SumColumns (read_to (k + 1) 0 first.now) (read_to (k + 1) gap second.now) false (length target.old) target.new result }
+    ensures { Columns S.column (read_to (k + 1) 0 first.now) (read_to (k + 1) gap second.now) false (length target.old) target.new result }
 {
     let a = columns::column(first, m, 0, k);
     let b = columns::column(second, n, gap, k);
-    let s = limb::add_carry(a, b, false);
+    let s = S::limb(b, a, false);
     target[0] = s.limb;
-    sum_above(&mut target[1..], first, second, gap, k, s.carry)
-}
-
-// The first operand's columns to column k and with it, less the second's.
-fn difference_columns(
-    target: &mut [u64],
-    first: &[u64],
-    m: u64,
-    second: &[u64],
-    n: u64,
-    gap: u64,
-    k: u64,
-) -> bool
-    requires { (0 < length target.old) × Within k 0 first.now × Within k gap second.now }
-    ensures { DifferenceColumns (read_to (k + 1) 0 first.now) (read_to (k + 1) gap second.now) false (length target.old) target.new result }
-{
-    let a = columns::column(first, m, 0, k);
-    let b = columns::column(second, n, gap, k);
-    let d = limb::sub_borrow(a, b, false);
-    target[0] = d.limb;
-    difference_above(&mut target[1..], first, second, gap, k, d.carry)
+    columns_above::<S>(&mut target[1..], first, second, gap, k, s.carry)
 }
 
 // The columns of one operand to column k and with it.
@@ -143,7 +108,7 @@ pub fn leap_sum(
     requires { Leap 0 k (length target.old) × Within k 0 first.now × Within k gap second.now }
     ensures { Leapt 0 (k + 1) (read_to (k + 1) 0 first.now + read_to (k + 1) gap second.now) target.old target.new result }
 {
-    let carry = sum_columns(target, first, m, second, n, gap, k);
+    let carry = columns_to::<Adding>(target, first, m, second, n, gap, k);
     shown(0, carry, target.len())
 }
 
@@ -161,6 +126,6 @@ pub fn leap_difference(
     requires { Leap from k (length target.old) × Within k 0 first.now × Within k gap second.now }
     ensures { read_to from gap second.now ≡ read_to from 0 first.now → read_to (k + 1) gap second.now ≤ read_to (k + 1) 0 first.now → Leapt from (k + 1) (read_to (k + 1) 0 first.now - read_to (k + 1) gap second.now) target.old target.new result }
 {
-    difference_columns(target, first, m, second, n, gap, k);
+    columns_to::<TakingFrom>(target, first, m, second, n, gap, k);
     shown(from, false, target.len())
 }

@@ -7,3 +7,4 @@ mod difference; // difference.rt: one run taken off another
 
 pub use difference::{rsub_from, rsub_into, sub_at, sub_from, sub_into};
 pub use sum::{add_at, add_from, add_into};
+pub use walk::step_from;

@@ -5,4 +5,4 @@ use Rattle.leap.proofs.leap_sum.Goals as goal
 
 pub returns : goal.returns
 returns c =
-    sum_leapt 0 c.args.k c.args.first.now c.args.second.now c.args.target.now _ c.args.gap (λ i. (c.type_inv.first i).fits) (λ i. (c.type_inv.second i).fits) c.requires.0 _ refl _ c.shown.ensures c.sum_columns-carry.ensures
+    sum_leapt 0 c.args.k c.args.first.now c.args.second.now c.args.target.now _ c.args.gap (λ i. (c.type_inv.first i).fits) (λ i. (c.type_inv.second i).fits) c.requires.0 _ refl _ c.shown.ensures c.columns_to-carry.ensures

@@ -1,13 +1,12 @@
--- `leap::guarded_columns` is right since the columns before the guard take up what the guard carries or borrows. Assumes nothing.
+-- `leap::guarded_columns` is right since a sum carries into the column above all, and a difference that is none below zero borrows nothing there. Assumes nothing.
 use native.Mathlib.Omega.{arith}
-use borrow.Author.Rules.{rules}
 use Rattle.leap.proofs.Guarding.{sum_guarded, difference_guarded}
 use Rattle.leap.proofs.guarded.guarded_columns.Goals as goal
 
 pub returns-then-same : goal.returns-then-same
-returns-then-same c =
-    (search rules, λ o. sum_guarded c.args.gap c.args.k c.args.first.now c.args.second.now c.args.target.now _ (λ i. (c.type_inv.first i).fits) (λ i. (c.type_inv.second i).fits) c.requires.0 _ _ _ _ c.if-same.true (rw (c.column-a.ensures, c.column-b.ensures) at c.add_carry-s.ensures) c.sum_above-carry.ensures)
+returns-then-same c = let r = c.columns_on in (r.ensures.0, λ o. sum_guarded _ _ _ r.result c.args.same c.if-same.true r.ensures.1)
 
-pub returns : goal.returns
-returns c =
-    (search rules, λ o. difference_guarded c.args.gap c.args.k c.args.first.now c.args.second.now c.args.target.now _ (λ i. (c.type_inv.first i).fits) (λ i. (c.type_inv.second i).fits) c.requires.0 _ _ _ _ c.if-same.false (omega arith) (rw (c.column-a.ensures, c.column-b.ensures) at c.sub_borrow-d.ensures) c.difference_above.ensures (λ i. (c.type_inv.target i).fits) (o c.if-same.false))
+pub returns-else-same : goal.returns-else-same
+returns-else-same c =
+    let r = c.columns_on-else-same in
+    (r.ensures.0, λ o. difference_guarded _ _ _ r.result c.args.same c.if-same.false (omega arith) (λ i. (c.type_inv.target i).fits) (o c.if-same.false) r.ensures.1)

@@ -1,7 +1,0 @@
--- `leap::difference_above` is right since the limbs that meet the target are the first operand's columns. Assumes nothing.
-use Rattle.leap.proofs.Leaping.{differed}
-use Rattle.leap.proofs.difference_above.Goals as goal
-
-pub returns : goal.returns
-returns c =
-    differed _ c.args.k _ c.args.first.now _ _ (λ i. (c.type_inv.first i).fits) c.requires.0.columns c.columns_into.ensures _ _ c.rsub_from.ensures
