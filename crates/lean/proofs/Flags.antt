@@ -15,20 +15,24 @@ use Rattle.rounding.proofs.Order.{le_or_lt, Cmp, cmp}
 use Rattle.decide.specs.Class.{tie, off, lean, alike, enough}
 use Rattle.remnant.specs.Rest.{RestOf}
 use Rattle.remnant.specs.declared.rest.Rest.{Rest}
-use Rattle.lean.specs.Leaning.{rank_of, Flags}
+use Rattle.std.specs.Ordering.{ordering_index}
+use Rattle.std.specs.Bool.{◌==◌}
+use Rattle.lean.specs.Leaning.{lean_is, Flags}
+use Rattle.std.specs.declared.cmp.Ordering.{Ordering as Order}
+use Rattle.std.specs.declared.cmp.Ordering.TheVariants.{Less, Equal, Greater}
 use Rattle.settle.proofs.Units.{odd_even, one_or_even, power_halved}
 
-pub alike_rank : (a b : Ordering) → eqb (rank_of a) (rank_of b) ≡ alike a b
-unfolding rank_of
-alike_rank Ordering.lt Ordering.lt = refl
-alike_rank Ordering.lt Ordering.eq = refl
-alike_rank Ordering.lt Ordering.gt = refl
-alike_rank Ordering.eq Ordering.lt = refl
-alike_rank Ordering.eq Ordering.eq = refl
-alike_rank Ordering.eq Ordering.gt = refl
-alike_rank Ordering.gt Ordering.lt = refl
-alike_rank Ordering.gt Ordering.eq = refl
-alike_rank Ordering.gt Ordering.gt = refl
+pub alike_same : (a b : Order) → (ordering_index a == ordering_index b) ≡ alike (lean_is a) (lean_is b)
+unfolding lean_is
+alike_same Less Less = refl
+alike_same Less Equal = refl
+alike_same Less Greater = refl
+alike_same Equal Less = refl
+alike_same Equal Equal = refl
+alike_same Equal Greater = refl
+alike_same Greater Less = refl
+alike_same Greater Equal = refl
+alike_same Greater Greater = refl
 
 module _ (q u r : ℕ) (z h a o : Bool) (f : Flags q u r z h a o) (more : Bool) where
   nothing : (not more && eqb r 0) ≡ (z && not more)

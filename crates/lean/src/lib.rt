@@ -1,59 +1,46 @@
 // Do the least and the greatest sum round alike?
 #![tactic(auto)]
 
-ghost use Rattle.std.specs.Prelude.{◌≡◌, true, ℕ, ◌-◌, ◌<◌};
+ghost use Rattle.std.specs.Prelude.{◌≡◌, true, false, ◌||◌, ℕ, ◌-◌, ◌<◌};
 ghost use Rattle.limb.specs.Carry.{bit};
-ghost use Rattle.decide.specs.Class.{lean, alike, enough, settled};
+ghost use Rattle.decide.specs.Class.{lean, enough, settled};
 ghost use Rattle.remnant.specs.Rest.{RestOf};
 ghost use Rattle.settle.specs.Ways.{theory_way};
-ghost use Rattle.lean.specs.Leaning.{lean_is, rank_of, Flags};
+ghost use Rattle.lean.specs.Leaning.{lean_is, Flags};
 
 use remnant::Rest;
 use settle::Way;
+use std::cmp::Ordering;
 
-// The sign of selected less exact, on sizes.
-#[derive(Clone, Copy)]
-pub enum Lean {
-    Low,
-    Even,
-    High,
-}
-
-// A number for each.
-fn rank(l: Lean) -> u8
-    ensures { result ≡ rank_of (lean_is l) }
+// The sign of selected less exact, on sizes: from the tests on a remainder, and whether more lies below it.
+pub fn leans(way: Way, x: Rest, more: bool) -> Ordering
+    ensures { (q u d : ℕ) → Flags q u d x.zero x.half x.above x.odd → lean_is result ≡ lean (theory_way way) q u d more }
 {
-    match l {
-        Lean::Low => 0,
-        Lean::Even => 1,
-        Lean::High => 2,
-    }
-}
-
-// Whether both are the same sign.
-fn same_lean(a: Lean, b: Lean) -> bool
-    ensures { result ≡ alike (lean_is a) (lean_is b) }
-{
-    rank(a) == rank(b)
-}
-
-// From the tests on a remainder, and whether more lies below it.
-pub fn leans(way: Way, zero: bool, half: bool, above: bool, odd: bool, more: bool) -> Lean
-    ensures { (q u d : ℕ) → Flags q u d zero half above odd → lean_is result ≡ lean (theory_way way) q u d more }
-{
-    if zero & !more {
-        return Lean::Even;
+    if x.zero & !more {
+        return Ordering::Equal;
     }
     match way {
-        Way::Under => Lean::Low,
-        Way::Over => Lean::High,
+        Way::Under => Ordering::Less,
+        Way::Over => Ordering::Greater,
         Way::Near => {
-            if above | (half & (more | odd)) {
-                Lean::High
+            if x.above | (x.half & (more | x.odd)) {
+                Ordering::Greater
             } else {
-                Lean::Low
+                Ordering::Less
             }
         }
+    }
+}
+
+// The tests on the remainder and one more, which is no whole unit.
+fn next_rest(x: Rest) -> Rest
+    ensures { (result.zero ≡ false) × (result.half ≡ x.almost) × (result.above ≡ (x.half || x.above)) × (result.odd ≡ x.odd) }
+{
+    Rest {
+        zero: false,
+        half: x.almost,
+        above: x.half | x.above,
+        ..x
     }
 }
 
@@ -75,15 +62,14 @@ pub fn settled_plus(way: Way, x: Rest, least: bool, next: bool, most: bool) -> b
     if !enough(way, x) {
         return false;
     }
-    let low = leans(way, x.zero, x.half, x.above, x.odd, least);
+    let low = leans(way, x, least);
     if next {
         if x.ones {
             return false;
         }
-        let high = leans(way, false, x.almost, x.half | x.above, x.odd, most);
-        return same_lean(low, high);
+        return low == leans(way, next_rest(x), most);
     }
-    same_lean(low, leans(way, x.zero, x.half, x.above, x.odd, most))
+    low == leans(way, x, most)
 }
 
 // The least lies just above the unit below D; the greatest is D, and more if `most`.
