@@ -12,34 +12,28 @@ ghost use Rattle.settle.specs.Ways.{theory_way};
 ghost use Rattle.settle.specs.Rows.{Modest};
 ghost use Rattle.bounds.specs.Ends.{is_far, is_next, open_digits, Ones};
 
-use lean::{Lean, enough, leans};
+use lean::{enough, leans};
+use numbers::{LEAST_EXPONENT, MOST_EXPONENT};
 use remnant::Rest;
 use settle::{Pair, Way};
-
-// The counted ends of the exponent range.
-const MOST: u64 = 1100585369599;
-
-const LEAST: u64 = 1098437885953;
+use std::cmp::Ordering;
 
 // One digit more, or none.
+#[tactic(auto, unfolding(limb::specs::Carry::bit))]
 fn digit(more: bool) -> u64
     ensures { result ≡ bit more }
 {
-    if more {
-        return 1;
-    }
-    0
+    more as u64
 }
 
 // Whether the selected number is longer than D by a digit, D and perhaps more being rounded; `ones`: the first p digits of D are all 1.
 fn carries(way: Way, x: Rest, more: bool, ones: bool) -> bool
     ensures { (p D : ℕ) → RestOf p D x → p ≤ size D → ones ≡ eqb (suc (D / 2 ^ (size D - p))) (2 ^ p) → bit result ≡ carry (theory_way way) p D more }
 {
-    let l = leans(way, x.zero, x.half, x.above, x.odd, more);
-    match l {
-        Lean::High => ones,
-        Lean::Low => false,
-        Lean::Even => false,
+    match leans(way, x, more) {
+        Ordering::Greater => ones,
+        Ordering::Less => false,
+        Ordering::Equal => false,
     }
 }
 
@@ -66,25 +60,15 @@ fn short_most(way: Way, digits: u64, ones: bool, p: u64, tail: u64) -> bool
     }
 }
 
-// Whether the least sum, rounded, has a digit more than D.
-fn least_grows(way: Way, x: Rest, digits: u64, ones: bool, p: u64, more: bool, half: bool) -> bool
-    ensures { (D : ℕ) → RestOf p D x → digits ≡ size D → Ones p D ones → bit result ≡ cond (enough (theory_way way) p D) (carry (theory_way way) p D more) (short_least (theory_way way) p D half) }
+// Whether D and perhaps more, rounded, has a digit more than D; `short` says so where D has too few digits.
+fn grows(way: Way, x: Rest, ones: bool, p: u64, more: bool, short: bool) -> bool
+    ensures { (D s : ℕ) → RestOf p D x → Ones p D ones → (enough (theory_way way) p D ≡ false → bit short ≡ s) → bit result ≡ cond (enough (theory_way way) p D) (carry (theory_way way) p D more) s }
 {
     if enough(way, x) {
-        return carries(way, x, more, ones);
+        carries(way, x, more, ones)
+    } else {
+        short
     }
-    short_least(way, digits, ones, p, half)
-}
-
-// And whether the greatest has.
-fn most_grows(way: Way, x: Rest, digits: u64, ones: bool, p: u64, more: bool, tail: u64) -> bool
-    requires { (digits ≤ 2 ^ 30) × (tail ≤ 2 ^ 20) }
-    ensures { (D : ℕ) → RestOf p D x → digits ≡ size D → Ones p D ones → bit result ≡ cond (enough (theory_way way) p D) (carry (theory_way way) p D more) (short_most (theory_way way) p D tail) }
-{
-    if enough(way, x) {
-        return carries(way, x, more, ones);
-    }
-    short_most(way, digits, ones, p, tail)
 }
 
 // Whether the exponent is so near the top that a sum can be too large.
@@ -92,7 +76,7 @@ pub fn is_high(top: u64) -> bool
     requires { top ≤ 2 ^ 42 }
     ensures { result ≡ ltb most_exponent (top + 2) }
 {
-    MOST < top + 2
+    MOST_EXPONENT < top + 2
 }
 
 // Refusal 6 for certain: the least sum is too large. D has `digits` digits; `ones`: its first p, or all where there are fewer, are 1.
@@ -102,8 +86,9 @@ pub fn too_large(way: Way, x: Rest, digits: u64, ones: bool, p: u64, pair: Pair,
 {
     let c = 64 * k;
     let far = (pair.second != 0) & (c <= pair.gap);
-    let grows = least_grows(way, x, digits, ones, p, far, far & (pair.gap == c));
-    MOST + c < digits + digit(grows) + pair.top
+    let short = short_least(way, digits, ones, p, far & (pair.gap == c));
+    let grows = grows(way, x, ones, p, far, short);
+    MOST_EXPONENT + c < digits + digit(grows) + pair.top
 }
 
 // Whether the exponent is so near the bottom that a difference can be too small after k columns.
@@ -111,7 +96,7 @@ pub fn is_low(top: u64, k: u64) -> bool
     requires { (top ≤ 2 ^ 42) × (k ≤ 2 ^ 20) }
     ensures { result ≡ ltb (top + 1) (least_exponent + 64 * k) }
 {
-    top + 1 < LEAST + 64 * k
+    top + 1 < LEAST_EXPONENT + 64 * k
 }
 
 // The digits of the first operand below the columns read.
@@ -131,6 +116,7 @@ pub fn too_small(way: Way, x: Rest, digits: u64, ones: bool, p: u64, pair: Pair,
 {
     let c = 64 * k;
     let tail = unread_digits(pair.first, c);
-    let grows = most_grows(way, x, digits, ones, p, 0 < tail, tail);
-    digits + digit(grows) + pair.top < LEAST + c
+    let short = short_most(way, digits, ones, p, tail);
+    let grows = grows(way, x, ones, p, 0 < tail, short);
+    digits + digit(grows) + pair.top < LEAST_EXPONENT + c
 }

@@ -5,14 +5,14 @@ use Rattle.lean.proofs.Flags.{flags_of}
 use Rattle.bounds.proofs.Ranges.{carry_high, carry_low, carry_even}
 use Rattle.bounds.proofs.carries.Goals as goal
 
-pub returns-in-High : goal.returns-in-High
+pub returns-in-Greater : goal.returns-in-Greater
 unfolding lean_is
-returns-in-High c = λ p D t l o. carry_high _ p D _ _ o (sym (c.leans-l.ensures _ _ _ (flags_of p D _ t l)) ∙ ap lean_is c.in-High.is)
+returns-in-Greater c = λ p D t l o. carry_high _ p D _ _ o (sym (c.leans.ensures _ _ _ (flags_of p D _ t l)) ∙ ap lean_is c.in-Greater.is)
 
-pub returns-in-Low : goal.returns-in-Low
+pub returns-in-Less : goal.returns-in-Less
 unfolding lean_is
-returns-in-Low c = λ p D t l o. carry_low _ p D _ (sym (c.leans-l.ensures _ _ _ (flags_of p D _ t l)) ∙ ap lean_is c.in-Low.is)
+returns-in-Less c = λ p D t l o. carry_low _ p D _ (sym (c.leans.ensures _ _ _ (flags_of p D _ t l)) ∙ ap lean_is c.in-Less.is)
 
-pub returns-in-Even : goal.returns-in-Even
+pub returns-in-Equal : goal.returns-in-Equal
 unfolding lean_is
-returns-in-Even c = λ p D t l o. carry_even _ p D _ (sym (c.leans-l.ensures _ _ _ (flags_of p D _ t l)) ∙ ap lean_is c.in-Even.is)
+returns-in-Equal c = λ p D t l o. carry_even _ p D _ (sym (c.leans.ensures _ _ _ (flags_of p D _ t l)) ∙ ap lean_is c.in-Equal.is)

@@ -7,11 +7,11 @@ use Rattle.bounds.proofs.Ranges.{small_is, small_tail}
 use Rattle.bounds.proofs.too_small.Goals as goal
 
 pub overflow_add-result : goal.overflow_add-result
-overflow_add-result c = omega (arith, c.digit.ensures, bit_le c.most_grows-grows.result)
+overflow_add-result c = omega (arith, c.digit.ensures, bit_le c.grows-grows.result)
 
 pub overflow_add-result-2 : goal.overflow_add-result-2
-overflow_add-result-2 c = omega (arith, c.digit.ensures, bit_le c.most_grows-grows.result)
+overflow_add-result-2 c = omega (arith, c.digit.ensures, bit_le c.grows-grows.result)
 
 pub returns : goal.returns
 unfolding open_digits
-returns c = λ D t d o. small_tail _ _ _ D _ _ _ c.unread_digits-tail.ensures (small_is _ _ D _ _ _ _ d c.requires.0.above _ _ (c.digit.ensures ∙ c.most_grows-grows.ensures D t d o))
+returns c = λ D t d o. small_tail _ _ _ D _ _ _ c.unread_digits-tail.ensures (small_is _ _ D _ _ _ _ d c.requires.0.above _ _ (c.digit.ensures ∙ c.grows-grows.ensures D _ t o (c.short_most-short.ensures D d o)))
