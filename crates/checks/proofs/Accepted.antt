@@ -14,7 +14,7 @@ use Rattle.numbers.specs.Operand.{Operand, spare_bits, WellFormed}
 use Rattle.numbers.proofs.Limits.{two_digits, limbs_hold}
 use Rattle.checks.specs.Check.{accepted, mode_holds, precision_holds, length_holds, exponent_holds, top_bit_holds, spare_bits_hold, form_holds, pair_refusal, single_refusal, compared_refusal, converted_refusal, alone_refusal}
 use Rattle.checks.specs.Passes.{TargetPasses, Passes}
-use Rattle.checks.proofs.Tables.{accepted_all, unrefused_accepted}
+use Rattle.checks.proofs.Tables.{accepted_all}
 use Rattle.checks.proofs.Passing.{pair_passes, single_passes, compared_passes, converted_passes, alone_passes}
 use Rattle.checks.proofs.Tests.{spare_lt}
 use Rattle.checks.proofs.Form.{top_bit_lead, lead_top_bit, spare_low}
@@ -124,7 +124,7 @@ module _ (mode : ℕ) (x y : Operand) (p n : ℕ) where
   pub accepted_well_formed : Below (2 ^ 64) x.limbs → Below (2 ^ 64) y.limbs → pair_refusal mode x y p n ≡ accepted → PairFits
   unfolding pair_refusal
   accepted_well_formed wx wy e =
-      let h = accepted_all _ refl e in
+      let h = accepted_all _ e in
       record {
         mode_small = mode_range mode h.0;
         first = passes_well_formed x wx (record { precision = h.1.0; limbs = h.1.1.1.1.0; exponent = h.1.1.1.1.1.1.1.0; form = h.1.1.1.1.1.1.1.1.1.0 });
@@ -144,7 +144,7 @@ module _ (mode : ℕ) (x : Operand) (p n : ℕ) where
   pub accepted_single : Below (2 ^ 64) x.limbs → single_refusal mode x p n ≡ accepted → SingleFits
   unfolding single_refusal
   accepted_single w e =
-      let h = accepted_all _ refl e in
+      let h = accepted_all _ e in
       record {
         mode_small = mode_range mode h.0;
         only = passes_well_formed x w (record { precision = h.1.0; limbs = h.1.1.1.0; exponent = h.1.1.1.1.1.0; form = h.1.1.1.1.1.1.0 });
@@ -158,7 +158,7 @@ module _ (x y : Operand) where
   pub accepted_both : compared_refusal x y ≡ accepted → Passes x × Passes y
   unfolding compared_refusal
   accepted_both e =
-      let h = accepted_all _ refl e in (
+      let h = accepted_all _ e in (
         record { precision = h.0; limbs = h.1.1.0; exponent = h.1.1.1.1.0; form = h.1.1.1.1.1.1.0 },
         record { precision = h.1.0; limbs = h.1.1.1.0; exponent = h.1.1.1.1.1.0; form = h.1.1.1.1.1.1.1.0 },
       )
@@ -173,7 +173,7 @@ module _ (mode : ℕ) (x : Operand) where
   pub accepted_converted : Below (2 ^ 64) x.limbs → converted_refusal mode x ≡ accepted → (mode ≤ 3) × WellFormed x
   unfolding converted_refusal
   accepted_converted w e =
-      let h = accepted_all _ refl e in
+      let h = accepted_all _ e in
       (mode_range mode h.0, passes_well_formed x w (record { precision = h.1.0; limbs = h.1.1.0; exponent = h.1.1.1.0; form = h.1.1.1.1.0 }))
 
   pub converted_accepted : mode ≤ 3 → WellFormed x → converted_refusal mode x ≡ accepted
@@ -183,30 +183,8 @@ module _ (x : Operand) where
   pub accepted_alone : Below (2 ^ 64) x.limbs → alone_refusal x ≡ accepted → WellFormed x
   unfolding alone_refusal
   accepted_alone w e =
-      let h = accepted_all _ refl e in
+      let h = accepted_all _ e in
       passes_well_formed x w (record { precision = h.0; limbs = h.1.0; exponent = h.1.1.0; form = h.1.1.1.0 })
 
   pub alone_accepted : WellFormed x → alone_refusal x ≡ accepted
   alone_accepted g = alone_passes x (well_formed_passes x g)
-
--- ---- a caller looks at the refusal's number: where it is 0, nothing is refused
-
-pub pair_unrefused : (mode : ℕ) (x y : Operand) (p n : ℕ) → (pair_refusal mode x y p n).rule ≡ 0 → pair_refusal mode x y p n ≡ accepted
-unfolding pair_refusal
-pair_unrefused mode x y p n e = unrefused_accepted _ refl e
-
-pub single_unrefused : (mode : ℕ) (x : Operand) (p n : ℕ) → (single_refusal mode x p n).rule ≡ 0 → single_refusal mode x p n ≡ accepted
-unfolding single_refusal
-single_unrefused mode x p n e = unrefused_accepted _ refl e
-
-pub compared_unrefused : (x y : Operand) → (compared_refusal x y).rule ≡ 0 → compared_refusal x y ≡ accepted
-unfolding compared_refusal
-compared_unrefused x y e = unrefused_accepted _ refl e
-
-pub converted_unrefused : (mode : ℕ) (x : Operand) → (converted_refusal mode x).rule ≡ 0 → converted_refusal mode x ≡ accepted
-unfolding converted_refusal
-converted_unrefused mode x e = unrefused_accepted _ refl e
-
-pub alone_unrefused : (x : Operand) → (alone_refusal x).rule ≡ 0 → alone_refusal x ≡ accepted
-unfolding alone_refusal
-alone_unrefused x e = unrefused_accepted _ refl e

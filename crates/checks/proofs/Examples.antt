@@ -9,6 +9,11 @@ use Rattle.numbers.specs.Operand.{Operand, spare_bits, turned}
 use Rattle.checks.specs.declared.Number.{Number}
 use Rattle.checks.specs.declared.Kind.{Kind}
 use Rattle.checks.specs.declared.Kind.TheVariants.{Regular, Zero}
+use Rattle.std.specs.Prelude.{Result, Err}
+use Rattle.checks.specs.declared.Rule.{Rule}
+use Rattle.checks.specs.declared.Rule.TheVariants.{Mode, Precision, Limbs, Exponent, Form}
+use Rattle.checks.specs.declared.Place.{Place}
+use Rattle.checks.specs.declared.Place.TheVariants.{Call, First, Second, Target}
 use Rattle.checks.specs.declared.Refusal.{Refusal}
 use Rattle.checks.specs.Number.{is_zero_kind, operand_of, nothing, turned_number, fetched}
 use Rattle.checks.specs.Check.{accepted, first_refusal, mode_holds, precision_holds, length_holds, exponent_holds, top_bit_holds, spare_bits_hold, form_holds, pair_refusal, single_refusal, compared_refusal, converted_refusal, alone_refusal}
@@ -17,9 +22,9 @@ use Rattle.checks.specs.Check.{accepted, first_refusal, mode_holds, precision_ho
 abbrev given : Kind → ℕ → ℤ → List ℕ → Operand
 given k p e l = operand_of (record { negative = false; kind = k; precision = p; exponent = e }) l
 
--- a number and a place
-abbrev at : ℕ → ℕ → Refusal
-at n place = record { rule = n; place = place }
+-- refused, by a rule and a place
+abbrev at : Rule → Place → Result (Unit {0}) Refusal
+at n place = Err (record { rule = n; place = place })
 
 -- ---- the order of the tests
 
@@ -54,7 +59,7 @@ pub pair_in_order :
     ∷ pair_refusal 3 good unformed 65 2
     ∷ pair_refusal 3 good good 65 2
     ∷ []
-    ≡ at 1 0 ∷ at 2 1 ∷ at 2 2 ∷ at 2 3 ∷ at 3 1 ∷ at 3 2 ∷ at 3 3 ∷ at 4 1 ∷ at 4 2 ∷ at 5 1 ∷ at 5 2 ∷ at 0 0 ∷ []
+    ≡ at Mode Call ∷ at Precision First ∷ at Precision Second ∷ at Precision Target ∷ at Limbs First ∷ at Limbs Second ∷ at Limbs Target ∷ at Exponent First ∷ at Exponent Second ∷ at Form First ∷ at Form Second ∷ accepted ∷ []
 unfolding pair_refusal first_refusal accepted mode_holds precision_holds length_holds exponent_holds form_holds top_bit_holds spare_bits_hold operand_of is_zero_kind counted bias least_precision most_precision least_exponent most_exponent limbs_for spare_bits
 pair_in_order = refl
 
@@ -69,7 +74,7 @@ pub single_in_order :
     ∷ single_refusal 3 unformed 65 2
     ∷ single_refusal 3 good 65 2
     ∷ []
-    ≡ at 1 0 ∷ at 2 1 ∷ at 2 3 ∷ at 3 1 ∷ at 3 3 ∷ at 4 1 ∷ at 5 1 ∷ at 0 0 ∷ []
+    ≡ at Mode Call ∷ at Precision First ∷ at Precision Target ∷ at Limbs First ∷ at Limbs Target ∷ at Exponent First ∷ at Form First ∷ accepted ∷ []
 unfolding single_refusal first_refusal accepted mode_holds precision_holds length_holds exponent_holds form_holds top_bit_holds spare_bits_hold operand_of is_zero_kind counted bias least_precision most_precision least_exponent most_exponent limbs_for spare_bits
 single_in_order = refl
 
@@ -85,7 +90,7 @@ pub compared_in_order :
     ∷ compared_refusal good unformed
     ∷ compared_refusal good good
     ∷ []
-    ≡ at 2 1 ∷ at 2 2 ∷ at 3 1 ∷ at 3 2 ∷ at 4 1 ∷ at 4 2 ∷ at 5 1 ∷ at 5 2 ∷ at 0 0 ∷ []
+    ≡ at Precision First ∷ at Precision Second ∷ at Limbs First ∷ at Limbs Second ∷ at Exponent First ∷ at Exponent Second ∷ at Form First ∷ at Form Second ∷ accepted ∷ []
 unfolding compared_refusal first_refusal accepted precision_holds length_holds exponent_holds form_holds top_bit_holds spare_bits_hold operand_of is_zero_kind counted bias least_precision most_precision least_exponent most_exponent limbs_for spare_bits
 compared_in_order = refl
 
@@ -98,7 +103,7 @@ pub converted_in_order :
     ∷ converted_refusal 3 unformed
     ∷ converted_refusal 3 good
     ∷ []
-    ≡ at 1 0 ∷ at 2 1 ∷ at 3 1 ∷ at 4 1 ∷ at 5 1 ∷ at 0 0 ∷ []
+    ≡ at Mode Call ∷ at Precision First ∷ at Limbs First ∷ at Exponent First ∷ at Form First ∷ accepted ∷ []
 unfolding converted_refusal first_refusal accepted mode_holds precision_holds length_holds exponent_holds form_holds top_bit_holds spare_bits_hold operand_of is_zero_kind counted bias least_precision most_precision least_exponent most_exponent limbs_for spare_bits
 converted_in_order = refl
 
@@ -110,7 +115,7 @@ pub alone_in_order :
     ∷ alone_refusal unformed
     ∷ alone_refusal good
     ∷ []
-    ≡ at 2 1 ∷ at 3 1 ∷ at 4 1 ∷ at 5 1 ∷ at 0 0 ∷ []
+    ≡ at Precision First ∷ at Limbs First ∷ at Exponent First ∷ at Form First ∷ accepted ∷ []
 unfolding alone_refusal first_refusal accepted precision_holds length_holds exponent_holds form_holds top_bit_holds spare_bits_hold operand_of is_zero_kind counted bias least_precision most_precision least_exponent most_exponent limbs_for spare_bits
 alone_in_order = refl
 

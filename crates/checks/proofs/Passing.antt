@@ -7,6 +7,7 @@ use native.Mathlib.Omega.{arith}
 use lib.Dec.{eqb}
 use lib.ListN.{length, get_or}
 use borrow.Author.Tests.{leb-true, le-leb, lt-leb, eqb-true}
+use Rattle.std.specs.Prelude.{Result}
 use Rattle.limb.proofs.Tests.{both_true, true_false}
 use Rattle.numbers.specs.Limits.{least_precision, limbs_for}
 use Rattle.numbers.specs.Operand.{Operand}
@@ -76,5 +77,5 @@ module _ (x : Number) (l : List ℕ) where
   limbs_fail z f t = true_false (rw z at t.form) f
 
 -- a refusal of copies
-pub copies_refused : {a b x y : Number} {r : Refusal} (mode : ℕ) (xl yl : List ℕ) (p n : ℕ) → r ≡ pair_refusal mode (operand_of a xl) (operand_of b yl) p n → a ≡ x → b ≡ y → r ≡ pair_refusal mode (operand_of x xl) (operand_of y yl) p n
+pub copies_refused : {a b x y : Number} {r : Result (Unit {0}) Refusal} (mode : ℕ) (xl yl : List ℕ) (p n : ℕ) → r ≡ pair_refusal mode (operand_of a xl) (operand_of b yl) p n → a ≡ x → b ≡ y → r ≡ pair_refusal mode (operand_of x xl) (operand_of y yl) p n
 copies_refused mode xl yl p n h i j = h ∙ rw (i, j)

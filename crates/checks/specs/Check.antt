@@ -1,27 +1,36 @@
 -- Refusals 1 to 5, in their one order. Definitions only.
 -- Document 01, "Refusal numbers, in order of checking": number by number, and within a number first, second, target.
-use Rattle.std.specs.Prelude.{ℕ, ◌-◌, ◌%◌, ◌^◌, Bool, true, cond, ◌&&◌, List, [], ◌∷◌, leb, eqb, length, get_or}
+use Rattle.std.specs.Prelude.{ℕ, ◌-◌, ◌%◌, ◌^◌, Bool, true, cond, ◌&&◌, List, [], ◌∷◌, leb, eqb, length, get_or, Result, Ok, Err}
 use Rattle.numbers.specs.Limits.{least_precision, most_precision, bias, least_exponent, most_exponent, limbs_for}
 use Rattle.numbers.specs.Operand.{Operand, spare_bits}
+use Rattle.checks.specs.declared.Rule.{Rule}
+use Rattle.checks.specs.declared.Rule.TheVariants.{Mode, Precision, Limbs, Exponent, Form}
+use Rattle.checks.specs.declared.Place.{Place}
+use Rattle.checks.specs.declared.Place.TheVariants.{Call, First, Second, Target}
 use Rattle.checks.specs.declared.Refusal.{Refusal}
 
 -- nothing is refused
-unfoldable pub accepted : Refusal
-accepted = record { rule = 0; place = 0 }
+unfoldable pub accepted : Result (Unit {0}) Refusal
+accepted = Ok tt
 
 -- a test that must hold, and the refusal where it does not
 pub record Test : Type 0 where
   pub holds : Bool
-  pub rule : ℕ
-  pub place : ℕ
+  pub rule : Rule
+  pub place : Place
 
-abbrev pub test : Bool → ℕ → ℕ → Test
+abbrev pub test : Bool → Rule → Place → Test
 test b n p = record { holds = b; rule = n; place = p }
 
 -- the first test that fails gives the refusal
-unfoldable pub first_refusal : List Test → Refusal
+unfoldable pub first_refusal : List Test → Result (Unit {0}) Refusal
 first_refusal [] = accepted
-first_refusal (t ∷ ts) = cond t.holds (first_refusal ts) (record { rule = t.rule; place = t.place })
+first_refusal (t ∷ ts) = cond t.holds (first_refusal ts) (Err (record { rule = t.rule; place = t.place }))
+
+-- what a call answers: the refusal, or what it is asked for where nothing is refused
+unfoldable pub answered : {A : Type 0} → Result (Unit {0}) Refusal → A → Result A Refusal
+answered (Ok u) a = Ok a
+answered (Err r) a = Err r
 
 -- 1: "mode above 3"
 unfoldable pub mode_holds : ℕ → Bool
@@ -50,66 +59,66 @@ unfoldable pub form_holds : Operand → Bool
 form_holds x = cond x.is_zero true (top_bit_holds x.limbs && spare_bits_hold x.precision x.limbs)
 
 -- of two operands and a target of n limbs (add, subtract)
-unfoldable pub pair_refusal : ℕ → Operand → Operand → ℕ → ℕ → Refusal
+unfoldable pub pair_refusal : ℕ → Operand → Operand → ℕ → ℕ → Result (Unit {0}) Refusal
 pair_refusal mode x y p n =
     first_refusal
-    (test (mode_holds mode) 1 0
-    ∷ test (precision_holds x.precision) 2 1
-    ∷ test (precision_holds y.precision) 2 2
-    ∷ test (precision_holds p) 2 3
-    ∷ test (length_holds x.precision (length x.limbs)) 3 1
-    ∷ test (length_holds y.precision (length y.limbs)) 3 2
-    ∷ test (length_holds p n) 3 3
-    ∷ test (exponent_holds x) 4 1
-    ∷ test (exponent_holds y) 4 2
-    ∷ test (form_holds x) 5 1
-    ∷ test (form_holds y) 5 2
+    (test (mode_holds mode) Mode Call
+    ∷ test (precision_holds x.precision) Precision First
+    ∷ test (precision_holds y.precision) Precision Second
+    ∷ test (precision_holds p) Precision Target
+    ∷ test (length_holds x.precision (length x.limbs)) Limbs First
+    ∷ test (length_holds y.precision (length y.limbs)) Limbs Second
+    ∷ test (length_holds p n) Limbs Target
+    ∷ test (exponent_holds x) Exponent First
+    ∷ test (exponent_holds y) Exponent Second
+    ∷ test (form_holds x) Form First
+    ∷ test (form_holds y) Form Second
     ∷ [])
 
 -- of one operand and a target of n limbs (re-round)
-unfoldable pub single_refusal : ℕ → Operand → ℕ → ℕ → Refusal
+unfoldable pub single_refusal : ℕ → Operand → ℕ → ℕ → Result (Unit {0}) Refusal
 single_refusal mode x p n =
     first_refusal
-    (test (mode_holds mode) 1 0
-    ∷ test (precision_holds x.precision) 2 1
-    ∷ test (precision_holds p) 2 3
-    ∷ test (length_holds x.precision (length x.limbs)) 3 1
-    ∷ test (length_holds p n) 3 3
-    ∷ test (exponent_holds x) 4 1
-    ∷ test (form_holds x) 5 1
+    (test (mode_holds mode) Mode Call
+    ∷ test (precision_holds x.precision) Precision First
+    ∷ test (precision_holds p) Precision Target
+    ∷ test (length_holds x.precision (length x.limbs)) Limbs First
+    ∷ test (length_holds p n) Limbs Target
+    ∷ test (exponent_holds x) Exponent First
+    ∷ test (form_holds x) Form First
     ∷ [])
 
 -- of two operands (compare)
-unfoldable pub compared_refusal : Operand → Operand → Refusal
+unfoldable pub compared_refusal : Operand → Operand → Result (Unit {0}) Refusal
 compared_refusal x y =
     first_refusal
-    (test (precision_holds x.precision) 2 1
-    ∷ test (precision_holds y.precision) 2 2
-    ∷ test (length_holds x.precision (length x.limbs)) 3 1
-    ∷ test (length_holds y.precision (length y.limbs)) 3 2
-    ∷ test (exponent_holds x) 4 1
-    ∷ test (exponent_holds y) 4 2
-    ∷ test (form_holds x) 5 1
-    ∷ test (form_holds y) 5 2
+    (test (precision_holds x.precision) Precision First
+    ∷ test (precision_holds y.precision) Precision Second
+    ∷ test (length_holds x.precision (length x.limbs)) Limbs First
+    ∷ test (length_holds y.precision (length y.limbs)) Limbs Second
+    ∷ test (exponent_holds x) Exponent First
+    ∷ test (exponent_holds y) Exponent Second
+    ∷ test (form_holds x) Form First
+    ∷ test (form_holds y) Form Second
     ∷ [])
 
 -- of one operand under a mode (number to double)
-unfoldable pub converted_refusal : ℕ → Operand → Refusal
+unfoldable pub converted_refusal : ℕ → Operand → Result (Unit {0}) Refusal
 converted_refusal mode x =
     first_refusal
-    (test (mode_holds mode) 1 0
-    ∷ test (precision_holds x.precision) 2 1
-    ∷ test (length_holds x.precision (length x.limbs)) 3 1
-    ∷ test (exponent_holds x) 4 1
-    ∷ test (form_holds x) 5 1
+    (test (mode_holds mode) Mode Call
+    ∷ test (precision_holds x.precision) Precision First
+    ∷ test (length_holds x.precision (length x.limbs)) Limbs First
+    ∷ test (exponent_holds x) Exponent First
+    ∷ test (form_holds x) Form First
     ∷ [])
 
 -- of one operand alone (the enclosing pair)
-unfoldable pub alone_refusal : Operand → Refusal
+unfoldable pub alone_refusal : Operand → Result (Unit {0}) Refusal
 alone_refusal x =
     first_refusal
-    (test (precision_holds x.precision) 2 1
-    ∷ test (length_holds x.precision (length x.limbs)) 3 1
-    ∷ test (exponent_holds x) 4 1
-    ∷ test (form_holds x) 5 1
+    (test (precision_holds x.precision) Precision First
+    ∷ test (length_holds x.precision (length x.limbs)) Limbs First
+    ∷ test (exponent_holds x) Exponent First
+    ∷ test (form_holds x) Form First
     ∷ [])

@@ -1,4 +1,5 @@
 pub mod Number
+pub mod Refusal
 pub mod Check
 pub mod Passes
 pub mod Room

@@ -4,7 +4,8 @@
 ghost use Rattle.std.specs.Prelude.{◌≡◌, [], ◌∷◌};
 ghost use Rattle.numbers.specs.Limits.{counted, limbs_for};
 ghost use Rattle.checks.specs.Number.{is_zero_kind, operand_of, turned_number, exponent_of, fetched};
-ghost use Rattle.checks.specs.Check.{precision_holds, length_holds, exponent_holds, top_bit_holds, spare_bits_hold, form_holds};
+ghost use Rattle.checks.specs.Refusal.{rule_number, place_number};
+ghost use Rattle.checks.specs.Check.{test, first_refusal, precision_holds, length_holds, exponent_holds, top_bit_holds, spare_bits_hold, form_holds};
 
 pub use operand::{Formed, Regular, Target};
 
@@ -25,11 +26,69 @@ pub struct Number {
     pub exponent: i32,
 }
 
-// A refusal's number and place; both 0 where nothing is refused.
-#[derive(Clone, Copy)]
+// What a call is refused for, each with its number, in the order of the numbers.
+#[derive(Clone, Copy, Debug, PartialEq, Eq)]
+pub enum Rule {
+    Mode = 1,
+    Precision = 2,
+    Limbs = 3,
+    Exponent = 4,
+    Form = 5,
+    TooLarge = 6,
+    TooSmall = 7,
+    LineSize = 8,
+    LineByte = 9,
+    LineKind = 10,
+    Operation = 11,
+    DoubleTooLarge = 12,
+    DoubleTooSmall = 13,
+    NoNumber = 14,
+}
+
+// Where the fault lies, each with its number: in the call itself, or in one of what it was handed.
+#[derive(Clone, Copy, Debug, PartialEq, Eq)]
+pub enum Place {
+    Call = 0,
+    First = 1,
+    Second = 2,
+    Target = 3,
+}
+
+// The first rule that a call breaks, and its first place.
+#[derive(Clone, Copy, Debug, PartialEq, Eq)]
 pub struct Refusal {
-    pub rule: u8,
-    pub place: u8,
+    pub rule: Rule,
+    pub place: Place,
+}
+
+impl Rule {
+    #[tactic(auto, unfolding(crate::specs::Refusal::rule_number))]
+    pub fn number(self) -> u8
+        ensures { result ≡ rule_number self }
+    {
+        self as u8
+    }
+}
+
+impl Place {
+    #[tactic(auto, unfolding(crate::specs::Refusal::place_number))]
+    pub fn number(self) -> u8
+        ensures { result ≡ place_number self }
+    {
+        self as u8
+    }
+}
+
+// The refusal of that rule and place, unless the test holds.
+#[tactic(auto, unfolding(crate::specs::Check::first_refusal, crate::specs::Check::accepted))]
+pub fn refuse_unless(holds: bool, rule: Rule, place: Place) -> Result<(), Refusal>
+    ensures { result ≡ first_refusal (test holds rule place ∷ []) }
+{
+    if holds {
+        Ok(())
+    } else {
+        Err(Refusal { rule, place })
+    }
 }
 
 pub const MOST_MODE: u8 = 3;
