@@ -2,7 +2,7 @@
 use mathlib.Core.Path.{◌≡◌, refl}
 use mathlib.Core.Bool.{Bool, true, false}
 use mathlib.Core.List.{List, [], ◌∷◌, ◌++◌}
-use Rattle.std.specs.Prelude.{Ok, Err}
+use Rattle.std.specs.Prelude.{Result, Ok, Err}
 use Rattle.checks.specs.declared.Refusal.{Refusal}
 use Rattle.checks.specs.Check.{Test, accepted, first_refusal}
 
@@ -29,22 +29,17 @@ accepted_all (t ∷ ts) e = go t.holds refl (accepted_all ts)
     go true h k = (h, k (rw h at e))
     go false h k = let none : Err (record { rule = t.rule; place = t.place }) ≡ Ok tt = rw h at e in cc none
 
--- ---- tests in a row: the first that is refused refuses, and what passes leaves the rest
+-- ---- tests in a row are a chain: the first part that refuses refuses, and what passes leaves the rest
 
-pub refused_first : (ts us : List Test) (r : Refusal) → first_refusal ts ≡ Err r → first_refusal (ts ++ us) ≡ Err r
-unfolding first_refusal accepted
-refused_first [] us r e = cc e
-refused_first (t ∷ ts) us r e = go t.holds refl (refused_first ts us r)
-  where
-    go : (b : Bool) → t.holds ≡ b → (first_refusal ts ≡ Err r → first_refusal (ts ++ us) ≡ Err r) → first_refusal ((t ∷ ts) ++ us) ≡ Err r
-    go true h k = rw h (k (rw h at e))
-    go false h k = rw h (rw h at e)
+abbrev pub then : Result (Unit {0}) Refusal → Result (Unit {0}) Refusal → Result (Unit {0}) Refusal
+then (Ok u) rest = rest
+then (Err r) rest = Err r
 
-pub passed_first : (ts us : List Test) (u : Unit {0}) → first_refusal ts ≡ Ok u → first_refusal (ts ++ us) ≡ first_refusal us
+pub chained : (ts us : List Test) → first_refusal (ts ++ us) ≡ then (first_refusal ts) (first_refusal us)
 unfolding first_refusal accepted
-passed_first [] us u e = refl
-passed_first (t ∷ ts) us u e = go t.holds refl (passed_first ts us u)
+chained [] us = refl
+chained (t ∷ ts) us = go t.holds refl (chained ts us)
   where
-    go : (b : Bool) → t.holds ≡ b → (first_refusal ts ≡ Ok u → first_refusal (ts ++ us) ≡ first_refusal us) → first_refusal ((t ∷ ts) ++ us) ≡ first_refusal us
-    go true h k = rw h (k (rw h at e))
-    go false h k = let none : Err (record { rule = t.rule; place = t.place }) ≡ Ok u = rw h at e in cc none
+    go : (b : Bool) → t.holds ≡ b → first_refusal (ts ++ us) ≡ then (first_refusal ts) (first_refusal us) → first_refusal ((t ∷ ts) ++ us) ≡ then (first_refusal (t ∷ ts)) (first_refusal us)
+    go true h k = rw h k
+    go false h k = rw h

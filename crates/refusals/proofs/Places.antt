@@ -1,60 +1,57 @@
 -- The ordered tests, taken a rule at a time: a rule's first place stands for its tests. Assumes nothing.
 use mathlib.Core.Path.{◌≡◌, refl, ap, ◌∙◌}
 use mathlib.Core.Bool.{Bool, true, false, cond}
-use mathlib.Core.List.{List, [], ◌∷◌}
+use mathlib.Core.List.{[], ◌∷◌, ◌++◌}
 use Prim.Native.Nat.{ℕ}
-use lib.Dec.{eqb, leb}
+use lib.Dec.{leb}
 use lib.ListN.{length}
 use Rattle.numbers.specs.Operand.{Operand}
 use Rattle.refusals.specs.declared.Judged.{Judged}
 use Rattle.checks.specs.declared.Refusal.{Refusal}
-use Rattle.checks.specs.Check.{Test, test, accepted, first_refusal, mode_holds, pair_refusal, single_refusal, compared_refusal, converted_refusal, alone_refusal}
-use Rattle.refusals.specs.Judged.{judged_of, judged_target, first_place, refusal_of}
+use Rattle.std.specs.Prelude.{Result}
+use Rattle.checks.specs.declared.Rule.{Rule}
+use Rattle.checks.specs.declared.Rule.TheVariants.{Mode, Precision, Limbs, Exponent, Form}
+use Rattle.checks.specs.declared.Place.TheVariants.{Call, First, Second, Target}
+use Rattle.checks.proofs.Tables.{then, chained}
+use Rattle.checks.specs.Check.{test, first_refusal, mode_holds, pair_refusal, single_refusal, compared_refusal, converted_refusal, alone_refusal}
+use Rattle.refusals.specs.Judged.{judged_of, judged_target, place_tests, refusal_of}
 
--- a rule that holds in all places is passed; else its first place is named
-abbrev pub ruled : ℕ → ℕ → Refusal → Refusal
-ruled n place next = cond (eqb place 0) next (record { rule = n; place = place })
+pub places_chained : (r : Rule) (a b c : Bool) → first_refusal (place_tests r a b c) ≡ then (first_refusal (test a r First ∷ [])) (then (first_refusal (test b r Second ∷ [])) (first_refusal (test c r Target ∷ [])))
+places_chained r a b c = chained (test a r First ∷ []) (test b r Second ∷ test c r Target ∷ []) ∙ ap (then (first_refusal (test a r First ∷ []))) (chained (test b r Second ∷ []) (test c r Target ∷ []))
 
-pub by_place : (n : ℕ) (a b c : Bool) (ts : List Test) → first_refusal (test a n 1 ∷ test b n 2 ∷ test c n 3 ∷ ts) ≡ ruled n (first_place a b c) (first_refusal ts)
-unfolding first_refusal first_place
-by_place n true true true ts = refl
-by_place n true true false ts = refl
-by_place n true false c ts = refl
-by_place n false b c ts = refl
-
-pub refusal_by_place : (mode : Bool) (x y t : Judged) → refusal_of mode x y t
-    ≡ cond mode
-    (ruled 2 (first_place x.precision y.precision t.precision)
-    (ruled 3 (first_place x.limbs y.limbs t.limbs)
-    (ruled 4 (first_place x.exponent y.exponent true)
-    (ruled 5 (first_place x.form y.form true) accepted))))
-    (record { rule = 1; place = 0 })
+-- a test that holds is passed
+pub refusal_chained : (mode : Bool) (x y t : Judged) → refusal_of mode x y t
+    ≡ then (first_refusal (test mode Mode Call ∷ []))
+    (then (first_refusal (place_tests Precision x.precision y.precision t.precision))
+    (then (first_refusal (place_tests Limbs x.limbs y.limbs t.limbs))
+    (then (first_refusal (place_tests Exponent x.exponent y.exponent true))
+    (first_refusal (place_tests Form x.form y.form true)))))
 unfolding refusal_of first_refusal
-refusal_by_place mode x y t =
-    let forms = test x.form 5 1 ∷ test y.form 5 2 ∷ test true 5 3 ∷ [] in
-    let exponents = test x.exponent 4 1 ∷ test y.exponent 4 2 ∷ test true 4 3 ∷ forms in
-    let limbs = test x.limbs 3 1 ∷ test y.limbs 3 2 ∷ test t.limbs 3 3 ∷ exponents in
-    ap (λ (r : Refusal). cond mode r (record { rule = 1; place = 0 }))
-    (by_place 2 x.precision y.precision t.precision limbs
-    ∙ ap (ruled 2 (first_place x.precision y.precision t.precision))
-    (by_place 3 x.limbs y.limbs t.limbs exponents
-    ∙ ap (ruled 3 (first_place x.limbs y.limbs t.limbs))
-    (by_place 4 x.exponent y.exponent true forms
-    ∙ ap (ruled 4 (first_place x.exponent y.exponent true))
-    (by_place 5 x.form y.form true []))))
+refusal_chained mode x y t =
+    let forms = place_tests Form x.form y.form true in
+    let exponents = place_tests Exponent x.exponent y.exponent true in
+    let limbs = place_tests Limbs x.limbs y.limbs t.limbs in
+    let precisions = place_tests Precision x.precision y.precision t.precision in
+    chained (test mode Mode Call ∷ []) (precisions ++ (limbs ++ (exponents ++ forms)))
+    ∙ ap (then (first_refusal (test mode Mode Call ∷ [])))
+    (chained precisions (limbs ++ (exponents ++ forms))
+    ∙ ap (then (first_refusal precisions))
+    (chained limbs (exponents ++ forms)
+    ∙ ap (then (first_refusal limbs))
+    (chained exponents forms)))
 
 -- ---- the tables of document 01, each from the tests of its operands and its target
 
-pub pair_refusal_lem : {a b t : Judged} {r : Refusal} (mode : ℕ) (x y : Operand) (p n : ℕ) → r ≡ refusal_of (leb mode 3) a b t → a ≡ judged_of x → b ≡ judged_of y → t ≡ judged_target p n → r ≡ pair_refusal mode x y p n
+pub pair_refusal_lem : {a b t : Judged} {r : Result (Unit {0}) Refusal} (mode : ℕ) (x y : Operand) (p n : ℕ) → r ≡ refusal_of (leb mode 3) a b t → a ≡ judged_of x → b ≡ judged_of y → t ≡ judged_target p n → r ≡ pair_refusal mode x y p n
 unfolding pair_refusal refusal_of judged_of judged_target mode_holds
 pair_refusal_lem mode x y p n h i j k = h ∙ rw (i, j, k)
 
 -- a test that was passed is passed again
-again : (a : Bool) (r s t : Refusal) → cond a (cond a r s) t ≡ cond a r t
+again : (a : Bool) (r s t : Result (Unit {0}) Refusal) → cond a (cond a r s) t ≡ cond a r t
 again true r s t = refl
 again false r s t = refl
 
-later : (a b : Bool) (r s t u : Refusal) → cond a (cond b (cond a r s) t) u ≡ cond a (cond b r t) u
+later : (a b : Bool) (r s t u : Result (Unit {0}) Refusal) → cond a (cond b (cond a r s) t) u ≡ cond a (cond b r t) u
 later true b r s t u = refl
 later false b r s t u = refl
 

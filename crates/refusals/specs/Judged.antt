@@ -1,9 +1,12 @@
 -- The tests of one operand or target at once, and the first place of a rule where one fails. Definitions only.
-use Rattle.std.specs.Prelude.{ℕ, Bool, true, cond, [], ◌∷◌, length}
+use Rattle.std.specs.Prelude.{ℕ, Bool, true, List, [], ◌∷◌, length, Result}
 use Rattle.numbers.specs.Operand.{Operand}
 use Rattle.refusals.specs.declared.Judged.{Judged}
 use Rattle.checks.specs.declared.Refusal.{Refusal}
-use Rattle.checks.specs.Check.{test, first_refusal, precision_holds, length_holds, exponent_holds, form_holds}
+use Rattle.checks.specs.declared.Rule.{Rule}
+use Rattle.checks.specs.declared.Rule.TheVariants.{Mode, Precision, Limbs, Exponent, Form}
+use Rattle.checks.specs.declared.Place.TheVariants.{Call, First, Second, Target}
+use Rattle.checks.specs.Check.{Test, test, first_refusal, precision_holds, length_holds, exponent_holds, form_holds}
 
 -- what tests 2 to 5 say of an operand
 unfoldable pub judged_of : Operand → Judged
@@ -13,23 +16,23 @@ judged_of x = record { precision = precision_holds x.precision; limbs = length_h
 unfoldable pub judged_target : ℕ → ℕ → Judged
 judged_target p n = record { precision = precision_holds p; limbs = length_holds p n; exponent = true; form = true }
 
--- "(same order)": first 1, second 2, target 3; 0 where all three hold
-unfoldable pub first_place : Bool → Bool → Bool → ℕ
-first_place a b c = cond a (cond b (cond c 0 3) 2) 1
+-- the tests of a rule, "(same order)": first, second, target
+abbrev pub place_tests : Rule → Bool → Bool → Bool → List Test
+place_tests r a b c = test a r First ∷ test b r Second ∷ test c r Target ∷ []
 
 -- "in order of checking": number by number, and within a number first, second, target
-unfoldable pub refusal_of : Bool → Judged → Judged → Judged → Refusal
+unfoldable pub refusal_of : Bool → Judged → Judged → Judged → Result (Unit {0}) Refusal
 refusal_of mode x y t =
     first_refusal
-    (test mode 1 0
-    ∷ test x.precision 2 1
-    ∷ test y.precision 2 2
-    ∷ test t.precision 2 3
-    ∷ test x.limbs 3 1
-    ∷ test y.limbs 3 2
-    ∷ test t.limbs 3 3
-    ∷ test x.exponent 4 1
-    ∷ test y.exponent 4 2
-    ∷ test x.form 5 1
-    ∷ test y.form 5 2
+    (test mode Mode Call
+    ∷ test x.precision Precision First
+    ∷ test y.precision Precision Second
+    ∷ test t.precision Precision Target
+    ∷ test x.limbs Limbs First
+    ∷ test y.limbs Limbs Second
+    ∷ test t.limbs Limbs Target
+    ∷ test x.exponent Exponent First
+    ∷ test y.exponent Exponent Second
+    ∷ test x.form Form First
+    ∷ test y.form Form Second
     ∷ [])

@@ -3,10 +3,10 @@
 
 ghost use Rattle.std.specs.Prelude.{◌≡◌, length};
 ghost use Rattle.checks.specs.Number.{operand_of};
-ghost use Rattle.checks.specs.Check.{pair_refusal};
-ghost use Rattle.refusals.specs.Judged.{judged_of, judged_target, first_place, refusal_of};
+ghost use Rattle.checks.specs.Check.{first_refusal, pair_refusal};
+ghost use Rattle.refusals.specs.Judged.{judged_of, judged_target, place_tests, refusal_of};
 
-use checks::{Number, Refusal};
+use checks::{Number, Place, Refusal, Rule, refuse_unless};
 
 // What tests 2 to 5 say of an operand or a target: true where the test holds.
 #[derive(Clone, Copy)]
@@ -39,63 +39,39 @@ fn judge_target(p: u64, n: usize) -> Judged
     }
 }
 
-// The first place where a rule is broken: 1, 2 or 3; 0 where it holds in all.
-fn first_place(first: bool, second: bool, target: bool) -> u8
-    ensures { result ≡ first_place first second target }
+// The first place where a rule is broken.
+#[tactic(auto, using(crate::proofs::Places::places_chained))]
+fn refuse_places(rule: Rule, first: bool, second: bool, target: bool) -> Result<(), Refusal>
+    ensures { result ≡ first_refusal (place_tests rule first second target) }
 {
-    if !first {
-        return 1;
-    }
-    if !second {
-        return 2;
-    }
-    if !target {
-        return 3;
-    }
-    0
+    refuse_unless(first, rule, Place::First)?;
+    refuse_unless(second, rule, Place::Second)?;
+    refuse_unless(target, rule, Place::Target)
 }
 
 // The first rule that is broken, and its first place.
-fn first_refusal(mode: bool, x: Judged, y: Judged, t: Judged) -> Refusal
+#[tactic(auto, using(crate::proofs::Places::refusal_chained))]
+fn first_refusal(mode: bool, x: Judged, y: Judged, t: Judged) -> Result<(), Refusal>
     ensures { result ≡ refusal_of mode x y t }
 {
-    if !mode {
-        return Refusal { rule: 1, place: 0 };
-    }
-    let precision = first_place(x.precision, y.precision, t.precision);
-    if precision != 0 {
-        return Refusal {
-            rule: 2,
-            place: precision,
-        };
-    }
-    let limbs = first_place(x.limbs, y.limbs, t.limbs);
-    if limbs != 0 {
-        return Refusal {
-            rule: 3,
-            place: limbs,
-        };
-    }
-    let exponent = first_place(x.exponent, y.exponent, true);
-    if exponent != 0 {
-        return Refusal {
-            rule: 4,
-            place: exponent,
-        };
-    }
-    let form = first_place(x.form, y.form, true);
-    if form != 0 {
-        return Refusal {
-            rule: 5,
-            place: form,
-        };
-    }
-    Refusal { rule: 0, place: 0 }
+    refuse_unless(mode, Rule::Mode, Place::Call)?;
+    refuse_places(Rule::Precision, x.precision, y.precision, t.precision)?;
+    refuse_places(Rule::Limbs, x.limbs, y.limbs, t.limbs)?;
+    refuse_places(Rule::Exponent, x.exponent, y.exponent, true)?;
+    refuse_places(Rule::Form, x.form, y.form, true)
 }
 
 // The refusal of two operands under a mode, with a target of p digits in n limbs. A call without a second operand or a target hands the
 // first operand over again: it is named for what it breaks before they are.
-pub fn refuse(mode: u8, x: Number, xl: &[u64], y: Number, yl: &[u64], p: u64, n: usize) -> Refusal
+pub fn refuse(
+    mode: u8,
+    x: Number,
+    xl: &[u64],
+    y: Number,
+    yl: &[u64],
+    p: u64,
+    n: usize,
+) -> Result<(), Refusal>
     ensures { result ≡ pair_refusal mode (operand_of x xl.now) (operand_of y yl.now) p n }
 {
     let target = judge_target(p, n);
@@ -108,39 +84,14 @@ pub fn refuse(mode: u8, x: Number, xl: &[u64], y: Number, yl: &[u64], p: u64, n:
 }
 
 // The refusal of two operands under a mode, with no target.
-pub fn refuse_operands(mode: u8, x: Number, xl: &[u64], y: Number, yl: &[u64]) -> Refusal
-    ensures { result ≡ pair_refusal mode (operand_of x xl.now) (operand_of y yl.now) x.precision (length xl.now) }
-{
-    let r = refuse(
-        mode,
-        checks::copied(x),
-        xl,
-        checks::copied(y),
-        yl,
-        x.precision,
-        xl.len(),
-    );
-    Refusal {
-        rule: r.rule,
-        place: r.place,
-    }
-}
-
-// The same with a target of p digits in n limbs.
-pub fn refuse_pair(
+pub fn refuse_operands(
     mode: u8,
     x: Number,
     xl: &[u64],
     y: Number,
     yl: &[u64],
-    p: u64,
-    n: usize,
-) -> Refusal
-    ensures { result ≡ pair_refusal mode (operand_of x xl.now) (operand_of y yl.now) p n }
+) -> Result<(), Refusal>
+    ensures { result ≡ pair_refusal mode (operand_of x xl.now) (operand_of y yl.now) x.precision (length xl.now) }
 {
-    let r = refuse(mode, checks::copied(x), xl, checks::copied(y), yl, p, n);
-    Refusal {
-        rule: r.rule,
-        place: r.place,
-    }
+    refuse(mode, x, xl, y, yl, x.precision, xl.len())
 }
