@@ -156,14 +156,14 @@ pub fn check_pair(
     yl: &[u64],
     p: u64,
     n: usize,
-) -> Refusal
+) -> Result<(), Refusal>
     requires { SizesPass x.precision (length xl.now) y.precision (length yl.now) p n }
     ensures { result ≡ pair_refusal mode (operand_of x xl.now) (operand_of y yl.now) p n }
 {
     if pair_passes(mode, x, xl, y, yl, p, n) {
-        return Refusal { rule: 0, place: 0 };
+        return Ok(());
     }
-    refusals::refuse_pair(
+    refusals::refuse(
         mode,
         checks::copied(x),
         &xl[..],
@@ -175,33 +175,33 @@ pub fn check_pair(
 }
 
 // The same of one operand and a target.
-pub fn check_single(mode: u8, x: Number, xl: &[u64], p: u64, n: usize) -> Refusal
+pub fn check_single(mode: u8, x: Number, xl: &[u64], p: u64, n: usize) -> Result<(), Refusal>
     ensures { result ≡ single_refusal mode (operand_of x xl.now) p n }
 {
     if single_passes(mode, x, xl, p, n) {
-        return Refusal { rule: 0, place: 0 };
+        return Ok(());
     }
     let alike = checks::copied(x);
     refusals::refuse(mode, alike, xl, alike, xl, p, n)
 }
 
 // Refusals 1 to 5 of one operand under a mode, without a target.
-pub fn check_converted(mode: u8, x: Number, xl: &[u64]) -> Refusal
+pub fn check_converted(mode: u8, x: Number, xl: &[u64]) -> Result<(), Refusal>
     ensures { result ≡ converted_refusal mode (operand_of x xl.now) }
 {
     if one_passes(mode, x, xl) {
-        return Refusal { rule: 0, place: 0 };
+        return Ok(());
     }
     let alike = checks::copied(x);
     refusals::refuse_operands(mode, alike, xl, alike, xl)
 }
 
 // Refusals 2 to 5 of one operand.
-pub fn check_alone(x: Number, xl: &[u64]) -> Refusal
+pub fn check_alone(x: Number, xl: &[u64]) -> Result<(), Refusal>
     ensures { result ≡ alone_refusal (operand_of x xl.now) }
 {
     if passes(x, xl) {
-        return Refusal { rule: 0, place: 0 };
+        return Ok(());
     }
     let alike = checks::copied(x);
     refusals::refuse_operands(0, alike, xl, alike, xl)

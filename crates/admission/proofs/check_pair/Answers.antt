@@ -9,4 +9,4 @@ unfolding accepted
 returns-then-pair_passes c = sym (c.pair_passes.ensures c.if-pair_passes.true)
 
 pub returns : goal.returns
-returns c = copies_refused _ _ _ _ _ c.refuse_pair.ensures c.copied.ensures c.copied-2.ensures
+returns c = copies_refused _ _ _ _ _ c.refuse.ensures c.copied.ensures c.copied-2.ensures
