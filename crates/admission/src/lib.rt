@@ -4,7 +4,7 @@
 
 ghost use Rattle.std.specs.Prelude.{◌≡◌, true, false, ◌&&◌, [], ◌≤◌, ◌<◌, length};
 ghost use Rattle.checks.specs.Number.{is_zero_kind, operand_of};
-ghost use Rattle.checks.specs.Check.{accepted, mode_holds, exponent_holds, top_bit_holds, spare_bits_hold, pair_refusal, single_refusal, converted_refusal, alone_refusal};
+ghost use Rattle.checks.specs.Check.{accepted, mode_holds, exponent_holds, top_bit_holds, spare_bits_hold, pair_refusal, single_refusal, compared_refusal, converted_refusal, alone_refusal};
 ghost use Rattle.checks.specs.Passes.{TargetPasses, Passes};
 ghost use Rattle.admission.specs.Sizes.{SizesPass};
 
@@ -205,4 +205,14 @@ pub fn check_alone(x: Number, xl: &[u64]) -> Result<(), Refusal>
     }
     let alike = checks::copied(x);
     refusals::refuse_operands(0, alike, xl, alike, xl)
+}
+
+// Refusals 2 to 5 of two operands.
+pub fn check_compared(x: Number, xl: &[u64], y: Number, yl: &[u64]) -> Result<(), Refusal>
+    ensures { result ≡ compared_refusal (operand_of x xl.now) (operand_of y yl.now) }
+{
+    if passes(x, xl) && passes(y, yl) {
+        return Ok(());
+    }
+    refusals::refuse_operands(0, checks::copied(x), &xl[..], checks::copied(y), &yl[..])
 }

@@ -7,6 +7,7 @@ use native.Mathlib.Omega.{arith}
 use lib.ListN.{length, get_or}
 use lib.Dec.{leb}
 use borrow.Author.Tests.{leb-true, le-leb, eqb-true, eq-eqb}
+use Rattle.std.specs.Prelude.{Ok}
 use Rattle.limb.proofs.Tests.{both_true}
 use Rattle.limb.specs.Value.{Below}
 use Rattle.numbers.specs.Limits.{least_precision, most_precision, bias, least_exponent, most_exponent, limbs_for}
@@ -14,7 +15,7 @@ use Rattle.numbers.specs.Operand.{Operand, spare_bits, WellFormed}
 use Rattle.numbers.proofs.Limits.{two_digits, limbs_hold}
 use Rattle.checks.specs.Check.{accepted, mode_holds, precision_holds, length_holds, exponent_holds, top_bit_holds, spare_bits_hold, form_holds, pair_refusal, single_refusal, compared_refusal, converted_refusal, alone_refusal}
 use Rattle.checks.specs.Passes.{TargetPasses, Passes}
-use Rattle.checks.proofs.Tables.{accepted_all}
+use Rattle.checks.proofs.Tables.{accepted_all, unrefused_accepted}
 use Rattle.checks.proofs.Passing.{pair_passes, single_passes, compared_passes, converted_passes, alone_passes}
 use Rattle.checks.proofs.Tests.{spare_lt}
 use Rattle.checks.proofs.Form.{top_bit_lead, lead_top_bit, spare_low}
@@ -188,3 +189,25 @@ module _ (x : Operand) where
 
   pub alone_accepted : WellFormed x → alone_refusal x ≡ accepted
   alone_accepted g = alone_passes x (well_formed_passes x g)
+
+-- ---- a caller looks whether it is refused: where it is not, nothing is refused
+
+pub pair_unrefused : (mode : ℕ) (x y : Operand) (p n : ℕ) (u : Unit {0}) → pair_refusal mode x y p n ≡ Ok u → pair_refusal mode x y p n ≡ accepted
+unfolding pair_refusal
+pair_unrefused mode x y p n u e = unrefused_accepted _ u e
+
+pub single_unrefused : (mode : ℕ) (x : Operand) (p n : ℕ) (u : Unit {0}) → single_refusal mode x p n ≡ Ok u → single_refusal mode x p n ≡ accepted
+unfolding single_refusal
+single_unrefused mode x p n u e = unrefused_accepted _ u e
+
+pub compared_unrefused : (x y : Operand) (u : Unit {0}) → compared_refusal x y ≡ Ok u → compared_refusal x y ≡ accepted
+unfolding compared_refusal
+compared_unrefused x y u e = unrefused_accepted _ u e
+
+pub converted_unrefused : (mode : ℕ) (x : Operand) (u : Unit {0}) → converted_refusal mode x ≡ Ok u → converted_refusal mode x ≡ accepted
+unfolding converted_refusal
+converted_unrefused mode x u e = unrefused_accepted _ u e
+
+pub alone_unrefused : (x : Operand) (u : Unit {0}) → alone_refusal x ≡ Ok u → alone_refusal x ≡ accepted
+unfolding alone_refusal
+alone_unrefused x u e = unrefused_accepted _ u e

@@ -2,9 +2,11 @@
 use mathlib.Core.Path.{◌≡◌, refl}
 use mathlib.Core.Bool.{Bool, true, false}
 use mathlib.Core.List.{List, [], ◌∷◌, ◌++◌}
-use Rattle.std.specs.Prelude.{Result, Ok, Err}
-use Rattle.checks.specs.declared.Refusal.{Refusal}
-use Rattle.checks.specs.Check.{Test, accepted, first_refusal}
+use Rattle.std.specs.Prelude.{Ok, Err}
+use Rattle.checks.specs.declared.Rule.{Rule}
+use Rattle.checks.specs.declared.Rule.TheVariants.{Mode, Precision, Limbs, Exponent, Form, TooLarge, TooSmall, LineSize, LineByte, LineKind, Operation, DoubleTooLarge, DoubleTooSmall, NoNumber}
+use Rattle.checks.specs.Refusal.{rule_number}
+use Rattle.checks.specs.Check.{then, Test, accepted, first_refusal}
 
 abbrev pub AllHold : List Test → Type 0
 AllHold [] = Unit {0}
@@ -29,11 +31,33 @@ accepted_all (t ∷ ts) e = go t.holds refl (accepted_all ts)
     go true h k = (h, k (rw h at e))
     go false h k = let none : Err (record { rule = t.rule; place = t.place }) ≡ Ok tt = rw h at e in cc none
 
--- ---- tests in a row are a chain: the first part that refuses refuses, and what passes leaves the rest
+-- a caller that finds no refusal knows that all hold
+pub unrefused_all : (ts : List Test) (u : Unit {0}) → first_refusal ts ≡ Ok u → AllHold ts
+unfolding accepted
+unrefused_all ts u e = accepted_all ts e
 
-abbrev pub then : Result (Unit {0}) Refusal → Result (Unit {0}) Refusal → Result (Unit {0}) Refusal
-then (Ok u) rest = rest
-then (Err r) rest = Err r
+pub unrefused_accepted : (ts : List Test) (u : Unit {0}) → first_refusal ts ≡ Ok u → first_refusal ts ≡ accepted
+unrefused_accepted ts u e = all_accepted ts (unrefused_all ts u e)
+
+-- no rule has the number 0, which C reads as no refusal
+pub some_rule : (r : Rule) → rule_number r ≡ 0 → ⊥
+unfolding rule_number
+some_rule Mode e = cc e
+some_rule Precision e = cc e
+some_rule Limbs e = cc e
+some_rule Exponent e = cc e
+some_rule Form e = cc e
+some_rule TooLarge e = cc e
+some_rule TooSmall e = cc e
+some_rule LineSize e = cc e
+some_rule LineByte e = cc e
+some_rule LineKind e = cc e
+some_rule Operation e = cc e
+some_rule DoubleTooLarge e = cc e
+some_rule DoubleTooSmall e = cc e
+some_rule NoNumber e = cc e
+
+-- ---- tests in a row are a chain: the first part that refuses refuses, and what passes leaves the rest
 
 pub chained : (ts us : List Test) → first_refusal (ts ++ us) ≡ then (first_refusal ts) (first_refusal us)
 unfolding first_refusal accepted

@@ -27,10 +27,20 @@ unfoldable pub first_refusal : List Test → Result (Unit {0}) Refusal
 first_refusal [] = accepted
 first_refusal (t ∷ ts) = cond t.holds (first_refusal ts) (Err (record { rule = t.rule; place = t.place }))
 
+-- a refusal, or what follows where nothing is refused
+abbrev pub then : {A : Type 0} → Result (Unit {0}) Refusal → Result A Refusal → Result A Refusal
+then (Ok u) rest = rest
+then (Err r) rest = Err r
+
 -- what a call answers: the refusal, or what it is asked for where nothing is refused
 unfoldable pub answered : {A : Type 0} → Result (Unit {0}) Refusal → A → Result A Refusal
 answered (Ok u) a = Ok a
 answered (Err r) a = Err r
+
+-- what is left where it was written, or was refused
+unfoldable pub left_by : {A : Type 0} → Result (Unit {0}) Refusal → A → A → A
+left_by (Ok u) new old = new
+left_by (Err r) new old = old
 
 -- 1: "mode above 3"
 unfoldable pub mode_holds : ℕ → Bool

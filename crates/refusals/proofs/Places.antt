@@ -1,7 +1,7 @@
 -- The ordered tests, taken a rule at a time: a rule's first place stands for its tests. Assumes nothing.
 use mathlib.Core.Path.{◌≡◌, refl, ap, ◌∙◌}
 use mathlib.Core.Bool.{Bool, true, false, cond}
-use mathlib.Core.List.{[], ◌∷◌, ◌++◌}
+use mathlib.Core.List.{List, [], ◌∷◌, ◌++◌}
 use Prim.Native.Nat.{ℕ}
 use lib.Dec.{leb}
 use lib.ListN.{length}
@@ -12,22 +12,26 @@ use Rattle.std.specs.Prelude.{Result}
 use Rattle.checks.specs.declared.Rule.{Rule}
 use Rattle.checks.specs.declared.Rule.TheVariants.{Mode, Precision, Limbs, Exponent, Form}
 use Rattle.checks.specs.declared.Place.TheVariants.{Call, First, Second, Target}
-use Rattle.checks.proofs.Tables.{then, chained}
-use Rattle.checks.specs.Check.{test, first_refusal, mode_holds, pair_refusal, single_refusal, compared_refusal, converted_refusal, alone_refusal}
+use Rattle.checks.proofs.Tables.{chained}
+use Rattle.checks.specs.Check.{then, Test, test, first_refusal, mode_holds, pair_refusal, single_refusal, compared_refusal, converted_refusal, alone_refusal}
 use Rattle.refusals.specs.Judged.{judged_of, judged_target, place_tests, refusal_of}
+
+-- a rule is passed where it holds in all places; else its first place is named
+pub by_place : (r : Rule) (a b c : Bool) (ts : List Test) → first_refusal (test a r First ∷ test b r Second ∷ test c r Target ∷ ts) ≡ then (first_refusal (place_tests r a b c)) (first_refusal ts)
+by_place r a b c ts = chained (place_tests r a b c) ts
 
 pub places_chained : (r : Rule) (a b c : Bool) → first_refusal (place_tests r a b c) ≡ then (first_refusal (test a r First ∷ [])) (then (first_refusal (test b r Second ∷ [])) (first_refusal (test c r Target ∷ [])))
 places_chained r a b c = chained (test a r First ∷ []) (test b r Second ∷ test c r Target ∷ []) ∙ ap (then (first_refusal (test a r First ∷ []))) (chained (test b r Second ∷ []) (test c r Target ∷ []))
 
 -- a test that holds is passed
-pub refusal_chained : (mode : Bool) (x y t : Judged) → refusal_of mode x y t
+pub refusal_by_place : (mode : Bool) (x y t : Judged) → refusal_of mode x y t
     ≡ then (first_refusal (test mode Mode Call ∷ []))
     (then (first_refusal (place_tests Precision x.precision y.precision t.precision))
     (then (first_refusal (place_tests Limbs x.limbs y.limbs t.limbs))
     (then (first_refusal (place_tests Exponent x.exponent y.exponent true))
     (first_refusal (place_tests Form x.form y.form true)))))
 unfolding refusal_of first_refusal
-refusal_chained mode x y t =
+refusal_by_place mode x y t =
     let forms = place_tests Form x.form y.form true in
     let exponents = place_tests Exponent x.exponent y.exponent true in
     let limbs = place_tests Limbs x.limbs y.limbs t.limbs in

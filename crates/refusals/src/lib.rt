@@ -50,7 +50,7 @@ fn refuse_places(rule: Rule, first: bool, second: bool, target: bool) -> Result<
 }
 
 // The first rule that is broken, and its first place.
-#[tactic(auto, using(crate::proofs::Places::refusal_chained))]
+#[tactic(auto, using(crate::proofs::Places::refusal_by_place))]
 fn first_refusal(mode: bool, x: Judged, y: Judged, t: Judged) -> Result<(), Refusal>
     ensures { result ≡ refusal_of mode x y t }
 {
