@@ -2,19 +2,19 @@
 use mathlib.Core.Path.{◌≡◌, refl, sym, ap, ◌∙◌, subst}
 use mathlib.Core.Logic.{◌⊎◌, inl, inr}
 use mathlib.Core.Bool.{Bool, true, false, cond}
-use Prim.Native.Nat.{ℕ, ◌+◌, ◌-◌, ◌*◌, ◌%◌, ◌^◌, ◌≤◌, ◌<◌, Ordering}
+use Prim.Native.Nat.{ℕ, ◌+◌, ◌-◌, ◌*◌, ◌%◌, ◌^◌, ◌≤◌, ◌<◌, compare, Ordering}
 use native.Mathlib.Nat.{mul_assoc, le_antisymm, zero-mul}
 use native.Mathlib.Omega.{arith}
-use lib.Dec.{eqb}
 use lib.Pow.{pow_pos, pow-add}
 use lib.Ieee.{binary64, to_bits, size}
-use borrow.Author.Tests.{eq-eqb, eqb-true, eqb-false}
+use Rattle.std.specs.Prelude.{eqb, Result, Ok, Err}
+use Rattle.checks.specs.declared.Refusal.{Refusal}
 use Rattle.numbers.specs.Operand.{Operand, mantissa, last_weight, WellFormed}
 use Rattle.rounding.specs.Mode.{Way, way}
 use Rattle.rounding.specs.declared.Mode.{Mode}
 use Rattle.rounding.specs.declared.Mode.TheVariants.{Upward, Downward}
 use Rattle.rounding.specs.Select.{chosen}
-use Rattle.rounding.specs.Answer.{Answer, zero_of, number, too_large, too_small, digits}
+use Rattle.rounding.specs.Answer.{zero_of, too_large, too_small, digits, signed}
 use Rattle.rounding.specs.Sum.{amount}
 use Rattle.rounding.specs.Paper.{Le}
 use Rattle.rounding.proofs.Order.{le_or_lt, mul_one_one}
@@ -24,45 +24,44 @@ use Rattle.location.specs.Ternary.{ternary_of}
 use Rattle.checks.specs.Check.{accepted}
 use Rattle.checks.proofs.Accepted.{alone_accepted}
 use Rattle.doubles.specs.declared.Converted.{Converted}
+use Rattle.doubles.specs.declared.Converted.TheVariants.{Exact}
+use Rattle.doubles.specs.declared.Enclosing.{Enclosing}
 use Rattle.unpack.specs.Double.{double_least, double_most, double_sign, is_finite, double_digits, double_scale, exponent_field, fraction, double_worth, double_unit, sign_bit, packed, double}
 use Rattle.doubles.specs.Convert.{in_doubles, converted_in, outside, case_of, double_case}
-use Rattle.doubles.specs.Enclose.{end_of, refusal_of, unenclosed_by, pair_of, enclosed_of, IsDouble, Encloses}
+use Rattle.doubles.specs.Enclose.{end_of, pair_of, enclosed_of, IsDouble, Encloses}
 use Rattle.unpack.proofs.Bits.{bits_back, zero_no_nan, zero_lt, zero_sign, zero_finite, zero_worth, packed_lt, packed_no_nan, packed_finite, packed_sign}
 use Rattle.doubles.proofs.Cases.{in_doubles_lem, is_beyond, is_under, is_inside, few_digits, first_digit}
 use Rattle.doubles.proofs.Worth.{regular_amount, some, inside_worth}
 
 -- ---- what is not refused
 
-pub unrefused : (a b : Converted) → (pair_of a b).refusal.rule ≡ 0 → ((refusal_of a).rule ≡ 0) × ((refusal_of b).rule ≡ 0)
-unfolding pair_of unenclosed_by
-unrefused a b h = go (eqb (refusal_of a).rule 0) (eqb (refusal_of b).rule 0) refl refl
-  where
-    go : (s t : Bool) → eqb (refusal_of a).rule 0 ≡ s → eqb (refusal_of b).rule 0 ≡ t → ((refusal_of a).rule ≡ 0) × ((refusal_of b).rule ≡ 0)
-    go true true e f = (eqb-true (refusal_of a).rule 0 e, eqb-true (refusal_of b).rule 0 f)
-    go true false e f = absurd (eqb-false (refusal_of b).rule 0 f (rw (e, f) at h))
-    go false t e f = absurd (eqb-false (refusal_of a).rule 0 e (rw e at h))
-
-pub pair_is : (a b : Converted) → (refusal_of a).rule ≡ 0 → (refusal_of b).rule ≡ 0 → (pair_of a b).pair ≡ record { lower = end_of a; upper = end_of b }
+pub unrefused : (a b : Result Converted Refusal) (e : Enclosing) → pair_of a b ≡ Ok e → (c : Converted) × ((d : Converted) × ((a ≡ Ok c) × (b ≡ Ok d)))
 unfolding pair_of
-pair_is a b e f = rw (eq-eqb (refusal_of a).rule 0 e, eq-eqb (refusal_of b).rule 0 f) refl
+unrefused (Ok c) (Ok d) e h = (c, (d, (refl, refl)))
+unrefused (Ok c) (Err r) e h = cc h
+unrefused (Err r) b e h = cc h
+
+pub pair_is : (a b : Result Converted Refusal) (c d : Converted) → a ≡ Ok c → b ≡ Ok d → pair_of a b ≡ Ok (record { lower = end_of c; upper = end_of d })
+unfolding pair_of
+pair_is a b c d e f = rw (e, f) refl
 
 pub enclosed_is : (x : Operand) → WellFormed x → enclosed_of x ≡ pair_of (double_case (in_doubles Downward x)) (double_case (in_doubles Upward x))
 unfolding enclosed_of accepted
 enclosed_is x g = rw (alone_accepted x g) refl
 
-end_is : (n : Bool) (e d : ℕ) (t : Ordering) → end_of (double_case (number n e d t)) ≡ double (packed n e d)
-unfolding end_of double_case case_of ternary_of
+end_is : (n : Bool) (e d : ℕ) (t : Ordering) → end_of (case_of (ternary_of t) (double (packed n e d))) ≡ double (packed n e d)
+unfolding end_of case_of ternary_of
 end_is n e d Ordering.lt = refl
 end_is n e d Ordering.eq = refl
 end_is n e d Ordering.gt = refl
 
-refused_large : (refusal_of (double_case too_large)).rule ≡ 0 → ⊥
-unfolding refusal_of double_case outside
-refused_large h = omega arith
+refused_large : (a : Converted) → double_case too_large ≡ Ok a → ⊥
+unfolding double_case outside
+refused_large a h = cc h
 
-refused_small : (refusal_of (double_case too_small)).rule ≡ 0 → ⊥
-unfolding refusal_of double_case outside
-refused_small h = omega arith
+refused_small : (a : Converted) → double_case too_small ≡ Ok a → ⊥
+unfolding double_case outside
+refused_small a h = cc h
 
 -- ---- the digits of a double
 
@@ -95,17 +94,24 @@ module _ (x : Operand) (g : WellFormed x) (z : x.is_zero ≡ false) where
   abbrev bits : Mode → ℕ
   bits mode = packed n (E mode) (digits 53 (c mode))
 
-  inside : (mode : Mode) → (refusal_of (double_case (in_doubles mode x))).rule ≡ 0 → (double_least ≤ E mode) × (E mode ≤ double_most)
-  inside mode h = go (le_or_lt (E mode) double_most) (le_or_lt double_least (E mode))
+  inside : (mode : Mode) (v : Converted) → double_case (in_doubles mode x) ≡ Ok v → (double_least ≤ E mode) × (E mode ≤ double_most)
+  inside mode v h = go (le_or_lt (E mode) double_most) (le_or_lt double_least (E mode))
     where
       go : (E mode ≤ double_most) ⊎ (double_most < E mode) → (double_least ≤ E mode) ⊎ (E mode < double_least) → (double_least ≤ E mode) × (E mode ≤ double_most)
-      go (inr a) b = absurd (refused_large (rw (in_doubles_lem mode x g z, is_beyond _ (E mode) a) at h))
-      go (inl a) (inr b) = absurd (refused_small (rw (in_doubles_lem mode x g z, is_under _ (E mode) b) at h))
+      go (inr a) b = absurd (refused_large v (rw (in_doubles_lem mode x g z, is_beyond _ (E mode) a) at h))
+      go (inl a) (inr b) = absurd (refused_small v (rw (in_doubles_lem mode x g z, is_under _ (E mode) b) at h))
       go (inl a) (inl b) = (b, a)
 
   module _ (mode : Mode) (lo : double_least ≤ E mode) (hi : E mode ≤ double_most) where
-    pub end_at : end_of (double_case (in_doubles mode x)) ≡ double (bits mode)
-    end_at = ap (λ (a : Answer). end_of (double_case a)) (in_doubles_lem mode x g z ∙ is_inside _ (E mode) lo hi) ∙ end_is n (E mode) (digits 53 (c mode)) _
+    case_at : double_case (in_doubles mode x) ≡ Ok (case_of (ternary_of (signed n (compare (c mode) m))) (double (bits mode)))
+    unfolding double_case
+    case_at = ap double_case (in_doubles_lem mode x g z ∙ is_inside _ (E mode) lo hi)
+
+    pub end_at : (v : Converted) → double_case (in_doubles mode x) ≡ Ok v → end_of v ≡ double (bits mode)
+    end_at v e =
+        let both : Ok v ≡ Ok (case_of (ternary_of (signed n (compare (c mode) m))) (double (bits mode))) = sym e ∙ case_at in
+        let same : v ≡ case_of (ternary_of (signed n (compare (c mode) m))) (double (bits mode)) = cc both in
+        ap end_of same ∙ end_is n (E mode) (digits 53 (c mode)) (signed n (compare (c mode) m))
 
     pub bits_at : to_bits binary64 (double (bits mode)) ≡ bits mode
     bits_at = bits_back (bits mode) (packed_lt n (E mode) (digits 53 (c mode)) lo hi (first_digit mode x g z) (few_digits mode x g z)) (packed_no_nan n (E mode) (digits 53 (c mode)) lo hi (first_digit mode x g z) (few_digits mode x g z))
@@ -168,12 +174,15 @@ module _ (x : Operand) (g : WellFormed x) (z : x.is_zero ≡ false) where
           double = double_is;
         }
 
-  pub regular_pair : (enclosed_of x).refusal.rule ≡ 0 → Encloses x (enclosed_of x).pair
-  regular_pair h =
-      let u = unrefused (double_case (in_doubles Downward x)) (double_case (in_doubles Upward x)) (rw (enclosed_is x g) at h) in
-      let a = inside Downward u.0 in
-      let b = inside Upward u.1 in
-      rw (enclosed_is x g, pair_is _ _ u.0 u.1, end_at Downward a.0 a.1, end_at Upward b.0 b.1) (regular_encloses a.0 a.1 b.0 b.1)
+  pub regular_pair : (e : Enclosing) → enclosed_of x ≡ Ok e → Encloses x e
+  regular_pair e h =
+      let k : pair_of (double_case (in_doubles Downward x)) (double_case (in_doubles Upward x)) ≡ Ok e = sym (enclosed_is x g) ∙ h in
+      let u = unrefused (double_case (in_doubles Downward x)) (double_case (in_doubles Upward x)) e k in
+      let a = inside Downward u.0 u.1.1.0 in
+      let b = inside Upward u.1.0 u.1.1.1 in
+      let both : Ok e ≡ Ok (record { lower = end_of u.0; upper = end_of u.1.0 }) = sym k ∙ pair_is _ _ u.0 u.1.0 u.1.1.0 u.1.1.1 in
+      let same : e ≡ record { lower = end_of u.0; upper = end_of u.1.0 } = cc both in
+      rw (same, end_at Downward a.0 a.1 u.0 u.1.1.0, end_at Upward b.0 b.1 u.1.0 u.1.1.1) (regular_encloses a.0 a.1 b.0 b.1)
 
 -- ---- a zero
 
@@ -182,13 +191,9 @@ module _ (x : Operand) (g : WellFormed x) (z : x.is_zero ≡ true) where
   unfolding in_doubles converted_in
   zero_in mode = rw z refl
 
-  zero_end : (n : Bool) → end_of (double_case (zero_of n)) ≡ double (sign_bit n)
-  unfolding end_of double_case
-  zero_end n = refl
-
-  zero_unrefused : (n : Bool) → (refusal_of (double_case (zero_of n))).rule ≡ 0
-  unfolding refusal_of double_case accepted
-  zero_unrefused n = refl
+  zero_at : (mode : Mode) → double_case (in_doubles mode x) ≡ Ok (Exact (double (sign_bit x.negative)))
+  unfolding double_case
+  zero_at mode = ap double_case (zero_in mode)
 
   zero_amount : amount 0 x ≡ 0
   unfolding amount
@@ -213,13 +218,18 @@ module _ (x : Operand) (g : WellFormed x) (z : x.is_zero ≡ true) where
         double = λ i. refl;
       }
 
-  pub zero_pair : Encloses x (enclosed_of x).pair
-  zero_pair = rw (enclosed_is x g, zero_in Downward, zero_in Upward, pair_is _ _ (zero_unrefused x.negative) (zero_unrefused x.negative), zero_end x.negative) zero_encloses
+  pub zero_pair : (e : Enclosing) → enclosed_of x ≡ Ok e → Encloses x e
+  unfolding end_of
+  zero_pair e h =
+      let zero : Converted = Exact (double (sign_bit x.negative)) in
+      let both : Ok e ≡ Ok (record { lower = end_of zero; upper = end_of zero }) = sym h ∙ enclosed_is x g ∙ pair_is _ _ zero zero (zero_at Downward) (zero_at Upward) in
+      let same : e ≡ record { lower = end_of zero; upper = end_of zero } = cc both in
+      rw same zero_encloses
 
 -- "where neither is refused, they are equal exactly when the number is a double", and the number lies between them
-pub pair_encloses : (x : Operand) → WellFormed x → (enclosed_of x).refusal.rule ≡ 0 → Encloses x (enclosed_of x).pair
-pair_encloses x g h = go x.is_zero refl
+pub pair_encloses : (x : Operand) → WellFormed x → (e : Enclosing) → enclosed_of x ≡ Ok e → Encloses x e
+pair_encloses x g e h = go x.is_zero refl
   where
-    go : (b : Bool) → x.is_zero ≡ b → Encloses x (enclosed_of x).pair
-    go true z = zero_pair x g z
-    go false z = regular_pair x g z h
+    go : (b : Bool) → x.is_zero ≡ b → Encloses x e
+    go true z = zero_pair x g z e h
+    go false z = regular_pair x g z e h

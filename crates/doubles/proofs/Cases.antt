@@ -12,7 +12,7 @@ use lib.ListN.{get_or}
 use lib.Signed.{lt_z}
 use lib.Pow.{pow_pos, shl_lt, shl-shr}
 use lib.Ieee.{Float, binary64, to_bits, size}
-use borrow.Author.Tests.{lt-ltb, le-ltb, eq-eqb, ne_eqb, ltb-true, ltb-false}
+use borrow.Author.Tests.{lt-ltb, le-ltb, ltb-true, ltb-false}
 use Rattle.numbers.specs.Limits.{bias, least_exponent, most_exponent, limbs_for}
 use Rattle.numbers.specs.Limbs.{limbs_of}
 use Rattle.numbers.specs.Operand.{Operand, mantissa, last_weight, spare_bits, WellFormed}
@@ -29,16 +29,19 @@ use Rattle.rounding.proofs.Range.{digits_few, digits_first}
 use Rattle.place.specs.declared.Placed.{Placed}
 use Rattle.place.specs.Placed.{placed_of, limbs_after}
 use Rattle.location.specs.Ternary.{ternary_of}
+use Rattle.std.specs.Prelude.{Result, Ok, Err}
 use Rattle.checks.specs.declared.Refusal.{Refusal}
-use Rattle.checks.specs.Check.{accepted, converted_refusal, alone_refusal}
+use Rattle.checks.specs.declared.Rule.TheVariants.{DoubleTooLarge, DoubleTooSmall}
+use Rattle.checks.specs.Refusal.{rule_number, place_number}
+use Rattle.checks.specs.Check.{converted_refusal, alone_refusal}
 use Rattle.checks.proofs.Accepted.{accepted_converted, converted_unrefused, accepted_alone, alone_unrefused}
 use Rattle.doubles.specs.declared.Converted.{Converted}
-use Rattle.doubles.specs.declared.Converted.TheVariants.{Exact, Below, Above, Refused}
-use Rattle.doubles.specs.declared.Enclosed.{Enclosed}
+use Rattle.doubles.specs.declared.Converted.TheVariants.{Exact, Below, Above}
+use Rattle.doubles.specs.declared.Enclosing.{Enclosing}
 use Rattle.select.specs.declared.Selected.{Selected}
 use Rattle.unpack.specs.Double.{double_precision, double_least, double_most, sign_bit, packed, double}
-use Rattle.doubles.specs.Convert.{ranged_in, selected_in, converted_in, in_doubles, outside, case_of, double_case, converted_of, told, told_answer, told_of}
-use Rattle.doubles.specs.Enclose.{end_of, refusal_of, unenclosed_by, pair_of, enclosed_of}
+use Rattle.doubles.specs.Convert.{ranged_in, selected_in, converted_in, in_doubles, outside, case_of, double_case, converted_of, told, told_case, told_refusal, told_answer, told_call, told_of}
+use Rattle.doubles.specs.Enclose.{end_of, pair_of, enclosed_of}
 use Rattle.select.specs.Steps.{shortened, Selects}
 use Rattle.unpack.proofs.Bits.{bits_back, zero_no_nan, zero_lt, packed_lt, packed_no_nan}
 
@@ -123,7 +126,7 @@ module _ (n : Bool) (E d : ℕ) (t : Ordering) (few : d < 2 ^ 53) (s : Placed) (
           kept (ap (λ (p : Placed). p.rule) e) (ap (λ (p : Placed). p.exponent) e) (ap (λ (p : Placed). p.ternary) e)
           (one limb (d * 2 ^ 11 % 2 ^ 64) (limb_is ∙ ap (limbs_after 53) f) ∙ mod-eq_of_lt (shl_lt 53 11 few))
 
-  pub beyond_kernel : (r : Converted) → r ≡ outside 12 → s.rule ≡ 6 → r ≡ double_case judged
+  pub beyond_kernel : (r : Result Converted Refusal) → r ≡ outside DoubleTooLarge → s.rule ≡ 6 → r ≡ double_case judged
   unfolding double_case
   beyond_kernel r e h = e ∙ elim found [
     | large a b c ↦ sym (ap double_case (is_beyond (number n E d t) E (omega (arith, inner_most))))
@@ -131,7 +134,7 @@ module _ (n : Bool) (E d : ℕ) (t : Ordering) (few : d < 2 ^ 53) (s : Placed) (
     | kept a b c i ↦ absurd (omega arith)
   ]
 
-  pub beyond_doubles : (r : Converted) → r ≡ outside 12 → 1099511628800 < s.exponent → r ≡ double_case judged
+  pub beyond_doubles : (r : Result Converted Refusal) → r ≡ outside DoubleTooLarge → 1099511628800 < s.exponent → r ≡ double_case judged
   unfolding double_case
   beyond_doubles r e h = e ∙ elim found [
     | large a b c ↦ absurd (omega arith)
@@ -139,7 +142,7 @@ module _ (n : Bool) (E d : ℕ) (t : Ordering) (few : d < 2 ^ 53) (s : Placed) (
     | kept a b c i ↦ sym (ap double_case (is_beyond (number n E d t) E (omega (arith, most_literal))))
   ]
 
-  pub under_doubles : (r : Converted) → r ≡ outside 13 → (s.rule ≡ 6 → ⊥) → s.exponent < 1099511626755 → r ≡ double_case judged
+  pub under_doubles : (r : Result Converted Refusal) → r ≡ outside DoubleTooSmall → (s.rule ≡ 6 → ⊥) → s.exponent < 1099511626755 → r ≡ double_case judged
   unfolding double_case
   under_doubles r e g h = e ∙ elim found [
     | large a b c ↦ absurd (g a)
@@ -155,40 +158,41 @@ module _ (n : Bool) (E d : ℕ) (t : Ordering) (few : d < 2 ^ 53) (s : Placed) (
       | kept a b c i ↦ omega arith
     ]
 
-    pub case_inside : (r : Converted) (v : Float) → v ≡ double (packed n s.exponent (limb / 2 ^ 11)) → r ≡ case_of s.ternary v → r ≡ double_case judged
+    pub case_inside : (r : Converted) (v : Float) → v ≡ double (packed n s.exponent (limb / 2 ^ 11)) → r ≡ case_of s.ternary v → Ok r ≡ double_case judged
     unfolding double_case
-    case_inside r v f e = e ∙ elim found [
+    case_inside r v f e = ap Ok e ∙ elim found [
       | large a b c ↦ absurd (omega arith)
       | small a b c ↦ absurd (omega arith)
       | kept a b c i ↦
-          ap (case_of s.ternary) f ∙ ap (λ (z : ℤ). case_of z (double (packed n s.exponent (limb / 2 ^ 11)))) c ∙ ap (λ (x : ℕ). case_of (ternary_of t) (double (packed n x (limb / 2 ^ 11)))) b
-          ∙ ap (λ (x : ℕ). case_of (ternary_of t) (double (packed n E x))) (ap (λ (x : ℕ). x / 2 ^ 11) i ∙ shl-shr d 11)
+          ap Ok
+          (ap (case_of s.ternary) f ∙ ap (λ (z : ℤ). case_of z (double (packed n s.exponent (limb / 2 ^ 11)))) c ∙ ap (λ (x : ℕ). case_of (ternary_of t) (double (packed n x (limb / 2 ^ 11)))) b
+          ∙ ap (λ (x : ℕ). case_of (ternary_of t) (double (packed n E x))) (ap (λ (x : ℕ). x / 2 ^ 11) i ∙ shl-shr d 11))
           ∙ sym (ap double_case (is_inside (number n E d t) E (omega (arith, least_literal)) (omega (arith, most_literal))))
     ]
 
 -- ---- what each case tells
 
 told_large : told (double_case too_large) ≡ told_answer too_large
-unfolding told double_case told_answer outside
+unfolding told told_refusal double_case told_answer outside rule_number place_number
 told_large = refl
 
 told_small : told (double_case too_small) ≡ told_answer too_small
-unfolding told double_case told_answer outside
+unfolding told told_refusal double_case told_answer outside rule_number place_number
 told_small = refl
 
 told_number : (n : Bool) (e d : ℕ) (t : Ordering) → to_bits binary64 (double (packed n e d)) ≡ packed n e d → told (double_case (number n e d t)) ≡ told_answer (number n e d t)
-unfolding told double_case told_answer case_of ternary_of
+unfolding told told_case double_case told_answer case_of ternary_of
 told_number n e d Ordering.lt h = rw h refl
 told_number n e d Ordering.eq h = rw h refl
 told_number n e d Ordering.gt h = rw h refl
 
 told_zero : (mode : Mode) (x : Operand) → x.is_zero ≡ true → told (double_case (in_doubles mode x)) ≡ told_answer (in_doubles mode x)
-unfolding in_doubles converted_in told double_case told_answer
+unfolding in_doubles converted_in told told_case double_case told_answer
 told_zero mode x z = rw (z, bits_back (sign_bit x.negative) (zero_lt x.negative) (zero_no_nan x.negative)) refl
 
 -- ---- a number to a double
 
-pub zero_case : (mode : Mode) (x : Operand) (r : Converted) → x.is_zero ≡ true → r ≡ double_case (zero_of x.negative) → r ≡ double_case (in_doubles mode x)
+pub zero_case : (mode : Mode) (x : Operand) (r : Result Converted Refusal) → x.is_zero ≡ true → r ≡ double_case (zero_of x.negative) → r ≡ double_case (in_doubles mode x)
 unfolding in_doubles converted_in
 zero_case mode x r z e = rw z e
 
@@ -222,7 +226,7 @@ module _ (mode : Mode) (x : Operand) (g : WellFormed x) (z : x.is_zero ≡ false
   pub first_digit : 2 ^ 52 ≤ d
   first_digit = digits_first 53 c (omega arith) (chosen_pos (way mode x.negative) 53 (mantissa x) (omega arith) (lt_of_lt_of_le (pow_pos (x.precision - 1)) (mantissa_ge x g z)))
 
-  module _ (s : Selected) (h : Selects mode x s) (r : Converted) where
+  module _ (s : Selected) (h : Selects mode x s) (r : Result Converted Refusal) where
     placed_is : s.placed ≡ placed_of (ranged E result)
     placed_is = h.placed ∙ ap placed_of shortened_is
 
@@ -233,21 +237,21 @@ module _ (mode : Mode) (x : Operand) (g : WellFormed x) (z : x.is_zero ≡ false
     back : r ≡ double_case (ranged_in double_least double_most E result) → r ≡ double_case (in_doubles mode x)
     back e = e ∙ ap double_case (sym in_doubles_lem)
 
-    pub large_case : r ≡ outside 12 → s.placed.rule ≡ 6 → r ≡ double_case (in_doubles mode x)
+    pub large_case : r ≡ outside DoubleTooLarge → s.placed.rule ≡ 6 → r ≡ double_case (in_doubles mode x)
     large_case e f = back (beyond_kernel x.negative E d t few_digits s.placed s.limb placed_is limb_is r e f)
 
-    pub beyond_case : r ≡ outside 12 → 1099511628800 < s.placed.exponent → r ≡ double_case (in_doubles mode x)
+    pub beyond_case : r ≡ outside DoubleTooLarge → 1099511628800 < s.placed.exponent → r ≡ double_case (in_doubles mode x)
     beyond_case e f = back (beyond_doubles x.negative E d t few_digits s.placed s.limb placed_is limb_is r e f)
 
-    pub under_case : r ≡ outside 13 → (s.placed.rule ≡ 6 → ⊥) → s.placed.exponent < 1099511626755 → r ≡ double_case (in_doubles mode x)
+    pub under_case : r ≡ outside DoubleTooSmall → (s.placed.rule ≡ 6 → ⊥) → s.placed.exponent < 1099511626755 → r ≡ double_case (in_doubles mode x)
     under_case e f k = back (under_doubles x.negative E d t few_digits s.placed s.limb placed_is limb_is r e f k)
 
     pub limb_large : 1099511626755 ≤ s.placed.exponent → s.placed.exponent ≤ 1099511628800 → 2 ^ 63 ≤ s.limb
     limb_large lo hi = limb_inside x.negative E d t few_digits s.placed s.limb placed_is limb_is lo hi first_digit
 
-    pub inside_case : 1099511626755 ≤ s.placed.exponent → s.placed.exponent ≤ 1099511628800 → (v : Float) → v ≡ double (packed x.negative s.placed.exponent (s.limb / 2 ^ 11))
-        → r ≡ case_of s.placed.ternary v → r ≡ double_case (in_doubles mode x)
-    inside_case lo hi v f e = back (case_inside x.negative E d t few_digits s.placed s.limb placed_is limb_is lo hi r v f e)
+    pub inside_case : 1099511626755 ≤ s.placed.exponent → s.placed.exponent ≤ 1099511628800 → (v : Float) (a : Converted) → v ≡ double (packed x.negative s.placed.exponent (s.limb / 2 ^ 11))
+        → a ≡ case_of s.placed.ternary v → r ≡ Ok a → r ≡ double_case (in_doubles mode x)
+    inside_case lo hi v a f e i = back (i ∙ case_inside x.negative E d t few_digits s.placed s.limb placed_is limb_is lo hi a v f e)
 
   -- ---- what the answer tells
 
@@ -269,50 +273,51 @@ told_is mode x g = go x.is_zero refl
 
 -- ---- with the checks
 
-module _ (mode : ℕ) (x : Operand) (r : Refusal) (r_is : r ≡ converted_refusal mode x) where
-  pub refused_case : (r.rule ≡ 0 → ⊥) → (Refused r ≡ converted_of mode x) × (told (Refused r) ≡ told_of mode x)
-  unfolding converted_of told_of told
-  refused_case h = rw (← r_is, ne_eqb r.rule 0 h) (refl, refl)
+module _ (mode : ℕ) (x : Operand) where
+  pub refused_case : (r : Refusal) → converted_refusal mode x ≡ Err r → (Err r ≡ converted_of mode x) × (told (Err r) ≡ told_of mode x)
+  unfolding converted_of told_of told_call told
+  refused_case r e = rw e (refl, refl)
 
-  pub accepted_mode : ((i : ℕ) → get_or x.limbs i 0 < 2 ^ 64) → r.rule ≡ 0 → mode ≤ 3
-  accepted_mode b h = (accepted_converted mode x b (converted_unrefused mode x (ap (λ (a : Refusal). a.rule) (sym r_is) ∙ h))).0
+  module _ (u : Unit {0}) (passed : converted_refusal mode x ≡ Ok u) where
+    pub accepted_mode : ((i : ℕ) → get_or x.limbs i 0 < 2 ^ 64) → mode ≤ 3
+    accepted_mode b = (accepted_converted mode x b (converted_unrefused mode x u passed)).0
 
-  pub accepted_formed : ((i : ℕ) → get_or x.limbs i 0 < 2 ^ 64) → r.rule ≡ 0 → WellFormed x
-  accepted_formed b h = (accepted_converted mode x b (converted_unrefused mode x (ap (λ (a : Refusal). a.rule) (sym r_is) ∙ h))).1
+    pub accepted_formed : ((i : ℕ) → get_or x.limbs i 0 < 2 ^ 64) → WellFormed x
+    accepted_formed b = (accepted_converted mode x b (converted_unrefused mode x u passed)).1
 
-  pub accepted_case : (a : Converted) → WellFormed x → r.rule ≡ 0 → a ≡ double_case (in_doubles (mode_of mode) x) → (a ≡ converted_of mode x) × (told a ≡ told_of mode x)
-  unfolding converted_of told_of
-  accepted_case a g h e = rw (← r_is, eq-eqb r.rule 0 h) (e, ap told e ∙ told_is (mode_of mode) x g)
+    pub accepted_case : (a : Result Converted Refusal) → WellFormed x → a ≡ double_case (in_doubles (mode_of mode) x) → (a ≡ converted_of mode x) × (told a ≡ told_of mode x)
+    unfolding converted_of told_of told_call
+    accepted_case a g e = rw passed (e, ap told e ∙ told_is (mode_of mode) x g)
 
 -- ---- the enclosing pair
 
-module _ (down up : Converted) where
-  pub lower_refused : (a : Refusal) (e : Enclosed) → a ≡ refusal_of down → (a.rule ≡ 0 → ⊥) → e ≡ unenclosed_by a → e ≡ pair_of down up
+module _ (down up : Result Converted Refusal) where
+  pub lower_refused : (r : Refusal) → down ≡ Err r → Err r ≡ pair_of down up
   unfolding pair_of
-  lower_refused a e f h k = rw (← f, ne_eqb a.rule 0 h) k
+  lower_refused r e = rw e refl
 
-  pub upper_refused : (a b : Refusal) (e : Enclosed) → a ≡ refusal_of down → a.rule ≡ 0 → b ≡ refusal_of up → (b.rule ≡ 0 → ⊥) → e ≡ unenclosed_by b → e ≡ pair_of down up
+  pub upper_refused : (a : Converted) (r : Refusal) → down ≡ Ok a → up ≡ Err r → Err r ≡ pair_of down up
   unfolding pair_of
-  upper_refused a b e f h i j k = rw (← f, eq-eqb a.rule 0 h, ← i, ne_eqb b.rule 0 j) k
+  upper_refused a r e f = rw (e, f) refl
 
-  pub both_ends : (a b : Refusal) (v w : Float) → a ≡ refusal_of down → a.rule ≡ 0 → b ≡ refusal_of up → b.rule ≡ 0 → v ≡ end_of down → w ≡ end_of up
-      → ◌≡◌ {A = Enclosed} (record { pair = record { lower = v; upper = w }; refusal = record { rule = 0; place = 0 } }) (pair_of down up)
-  unfolding pair_of accepted
-  both_ends a b v w f h i j k l = rw (← f, eq-eqb a.rule 0 h, ← i, eq-eqb b.rule 0 j, k, l) refl
+  pub both_ends : (a b : Converted) (v w : Float) → down ≡ Ok a → up ≡ Ok b → v ≡ end_of a → w ≡ end_of b → Ok (record { lower = v; upper = w }) ≡ pair_of down up
+  unfolding pair_of
+  both_ends a b v w e f k l = rw (e, f, k, l) refl
 
 -- the down answer and the up answer are those of the two modes
-pub paired_ends : (x : Operand) (down up : Converted) (e : Enclosed) → down ≡ double_case (in_doubles Downward x) → up ≡ double_case (in_doubles Upward x) → e ≡ pair_of down up
+pub paired_ends : (x : Operand) (down up : Result Converted Refusal) (e : Result Enclosing Refusal) → down ≡ double_case (in_doubles Downward x) → up ≡ double_case (in_doubles Upward x) → e ≡ pair_of down up
     → e ≡ pair_of (double_case (in_doubles Downward x)) (double_case (in_doubles Upward x))
 paired_ends x down up e i j k = rw (← i, ← j) k
 
-module _ (x : Operand) (r : Refusal) (r_is : r ≡ alone_refusal x) where
-  pub refused_pair : (e : Enclosed) → (r.rule ≡ 0 → ⊥) → e ≡ unenclosed_by r → e ≡ enclosed_of x
+module _ (x : Operand) where
+  pub refused_pair : (r : Refusal) → alone_refusal x ≡ Err r → Err r ≡ enclosed_of x
   unfolding enclosed_of
-  refused_pair e h k = rw (← r_is, ne_eqb r.rule 0 h) k
+  refused_pair r e = rw e refl
 
-  pub alone_formed : ((i : ℕ) → get_or x.limbs i 0 < 2 ^ 64) → r.rule ≡ 0 → WellFormed x
-  alone_formed b h = accepted_alone x b (alone_unrefused x (ap (λ (a : Refusal). a.rule) (sym r_is) ∙ h))
+  module _ (u : Unit {0}) (passed : alone_refusal x ≡ Ok u) where
+    pub alone_formed : ((i : ℕ) → get_or x.limbs i 0 < 2 ^ 64) → WellFormed x
+    alone_formed b = accepted_alone x b (alone_unrefused x u passed)
 
-  pub accepted_pair : (e : Enclosed) → r.rule ≡ 0 → e ≡ pair_of (double_case (in_doubles Downward x)) (double_case (in_doubles Upward x)) → e ≡ enclosed_of x
-  unfolding enclosed_of
-  accepted_pair e h k = rw (← r_is, eq-eqb r.rule 0 h) k
+    pub accepted_pair : (e : Result Enclosing Refusal) → e ≡ pair_of (double_case (in_doubles Downward x)) (double_case (in_doubles Upward x)) → e ≡ enclosed_of x
+    unfolding enclosed_of
+    accepted_pair e k = rw passed k

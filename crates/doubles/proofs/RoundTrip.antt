@@ -27,10 +27,12 @@ use Rattle.rounding.proofs.Range.{accepted_only}
 use Rattle.rounding.proofs.Reround.{reround_is, reround_own}
 use Rattle.location.specs.Ternary.{ternary_of}
 use Rattle.checks.specs.Number.{operand_of, is_zero_kind}
-use Rattle.checks.specs.Check.{accepted}
+use Rattle.checks.specs.Check.{accepted, answered, left_by}
 use Rattle.checks.proofs.Accepted.{converted_accepted}
 use Rattle.checks.proofs.Signed.{counted_exponent_of}
-use Rattle.unpack.specs.declared.FromDouble.{FromDouble}
+use Rattle.std.specs.Prelude.{Ok}
+use Rattle.checks.specs.declared.Number.{Number}
+use Rattle.checks.specs.declared.Rule.TheVariants.{DoubleTooSmall}
 use Rattle.doubles.specs.declared.Converted.TheVariants.{Exact}
 use Rattle.unpack.specs.Double.{double_precision, double_least, double_most, double_sign, exponent_field, fraction, is_finite, double_digits, double_scale, double_worth, double_unit, sign_bit, packed, double}
 use Rattle.doubles.specs.Convert.{in_doubles, converted_in, outside, case_of, double_case, converted_of}
@@ -88,11 +90,11 @@ module _ (mode : Mode) (x : Operand) (g : WellFormed x) (z : x.is_zero ≡ false
   exponent_own : E mode x g z ≡ x.exponent
   exponent_own = let e = own mode x g z p in cc
 
-  pub own_inside : double_least ≤ x.exponent → x.exponent ≤ double_most → double_case (in_doubles mode x) ≡ Exact (double (packed x.negative x.exponent (mantissa x)))
+  pub own_inside : double_least ≤ x.exponent → x.exponent ≤ double_most → double_case (in_doubles mode x) ≡ Ok (Exact (double (packed x.negative x.exponent (mantissa x))))
   unfolding double_case case_of ternary_of
   own_inside lo hi = ap double_case (in_doubles_lem mode x g z ∙ is_inside _ (E mode x g z) (rw exponent_own lo) (rw exponent_own hi) ∙ own mode x g z p)
 
-  pub own_under : x.exponent < double_least → double_case (in_doubles mode x) ≡ outside 13
+  pub own_under : x.exponent < double_least → double_case (in_doubles mode x) ≡ outside DoubleTooSmall
   unfolding double_case
   own_under h = ap double_case (in_doubles_lem mode x g z ∙ is_under _ (E mode x g z) (rw exponent_own h))
 
@@ -231,11 +233,11 @@ module _ (b : ℕ) (finite : is_finite b ≡ true) (some : 0 < double_digits b) 
         rest : D - 2 ^ 52 ≡ fraction b
         rest = omega (arith, normal_digits)
 
-    normal_converted : (mode : Mode) → b < 2 ^ 64 → double_case (in_doubles mode (read_back b)) ≡ Exact (double b)
+    normal_converted : (mode : Mode) → b < 2 ^ 64 → double_case (in_doubles mode (read_back b)) ≡ Ok (Exact (double b))
     normal_converted mode h =
-        ap (λ (x : Operand). double_case (in_doubles mode x)) regular_is ∙ own_inside mode regular regular_formed refl refl normal_range.0 normal_range.1 ∙ ap (λ (k : ℕ). Exact (double k)) (normal_packed h)
+        ap (λ (x : Operand). double_case (in_doubles mode x)) regular_is ∙ own_inside mode regular regular_formed refl refl normal_range.0 normal_range.1 ∙ ap (λ (k : ℕ). Ok (Exact (double k))) (normal_packed h)
 
-  low_converted : (mode : Mode) → exponent_field b ≡ 0 → double_case (in_doubles mode (read_back b)) ≡ outside 13
+  low_converted : (mode : Mode) → exponent_field b ≡ 0 → double_case (in_doubles mode (read_back b)) ≡ outside DoubleTooSmall
   low_converted mode e = ap (λ (x : Operand). double_case (in_doubles mode x)) regular_is ∙ own_under mode regular regular_formed refl refl (under e)
 
 -- ---- a zero
@@ -263,9 +265,9 @@ module _ (b : ℕ) (empty : double_digits b ≡ 0) where
   unfolding amount double_worth
   nothing_worth = sym (ap (λ (k : ℕ). k * 2 ^ (double_scale b - 1) * 2 ^ double_unit) empty ∙ ap (λ (k : ℕ). k * 2 ^ double_unit) (zero-mul (2 ^ (double_scale b - 1))) ∙ zero-mul (2 ^ double_unit))
 
-  zero_converted : (mode : Mode) → b < 2 ^ 64 → double_case (in_doubles mode (read_back b)) ≡ Exact (double b)
+  zero_converted : (mode : Mode) → b < 2 ^ 64 → double_case (in_doubles mode (read_back b)) ≡ Ok (Exact (double b))
   unfolding in_doubles converted_in double_case
-  zero_converted mode h = ap (λ (x : Operand). double_case (in_doubles mode x)) nothing_is ∙ ap (λ (k : ℕ). Exact (double k)) (zero_back b h empty)
+  zero_converted mode h = ap (λ (x : Operand). double_case (in_doubles mode x)) nothing_is ∙ ap (λ (k : ℕ). Ok (Exact (double k))) (zero_back b h empty)
 
 -- ---- every finite double
 
@@ -289,20 +291,20 @@ some_digits : (b : ℕ) → (exponent_field b ≡ 0 → ⊥) → 0 < double_digi
 some_digits b k = elim (zero_or (double_digits b)) [ inl e ↦ absurd (normal_some b k e) | inr h ↦ h ]
 
 -- a double that is normal or zero comes back from its number as itself, in every mode
-pub comes_back : (mode b : ℕ) → mode ≤ 3 → b < 2 ^ 64 → is_finite b ≡ true → (exponent_field b ≡ 0 → ⊥) ⊎ (double_digits b ≡ 0) → converted_of mode (read_back b) ≡ Exact (double b)
+pub comes_back : (mode b : ℕ) → mode ≤ 3 → b < 2 ^ 64 → is_finite b ≡ true → (exponent_field b ≡ 0 → ⊥) ⊎ (double_digits b ≡ 0) → converted_of mode (read_back b) ≡ Ok (Exact (double b))
 comes_back mode b m h f (inl k) = converted_is mode (read_back b) m (read_formed b f) ∙ normal_converted b f (some_digits b k) k (mode_of mode) h
 comes_back mode b m h f (inr e) = converted_is mode (read_back b) m (read_formed b f) ∙ zero_converted b e (mode_of mode) h
 
 -- a subnormal one is refused 13
-pub subnormal_refused : (mode b : ℕ) → mode ≤ 3 → is_finite b ≡ true → exponent_field b ≡ 0 → 0 < double_digits b → converted_of mode (read_back b) ≡ outside 13
+pub subnormal_refused : (mode b : ℕ) → mode ≤ 3 → is_finite b ≡ true → exponent_field b ≡ 0 → 0 < double_digits b → converted_of mode (read_back b) ≡ outside DoubleTooSmall
 subnormal_refused mode b m f e h = converted_is mode (read_back b) m (read_formed b f) ∙ low_converted b f h (mode_of mode) e
 
-read_is : (d : Float) → is_number d ≡ true → read_of 1 d ≡ record { number = number_of_bits (to_bits binary64 d); refusal = accepted }
-unfolding read_of accepted
+read_is : (d : Float) → is_number d ≡ true → read_of 1 d ≡ Ok (number_of_bits (to_bits binary64 d))
+unfolding read_of answered accepted
 read_is d n = rw (no_refusal 1 d refl n) refl
 
 limbs_are : (t : ℕ) (d : Float) → is_number d ≡ true → read_limbs (t ∷ []) d ≡ limbs_of_bits (to_bits binary64 d)
-unfolding read_limbs accepted
+unfolding read_limbs left_by accepted
 limbs_are t d n = rw (no_refusal 1 d refl n) refl
 
 number_finite : (d : Float) → is_number d ≡ true → is_finite (to_bits binary64 d) ≡ true
@@ -316,10 +318,11 @@ number_finite d n = go (is_nan d) (is_finite (to_bits binary64 d)) n
 
 -- as doubles, and as the two functions promise it
 pub round_trip : (mode t : ℕ) (d : Float) → mode ≤ 3 → T (fits binary64 d) → is_number d ≡ true → (exponent_field (to_bits binary64 d) ≡ 0 → ⊥) ⊎ (double_digits (to_bits binary64 d) ≡ 0)
-    → converted_of mode (operand_of (read_of 1 d).number (read_limbs (t ∷ []) d)) ≡ Exact d
+    → (x : Number) × ((read_of 1 d ≡ Ok x) × (converted_of mode (operand_of x (read_limbs (t ∷ []) d)) ≡ Ok (Exact d)))
 unfolding double
 round_trip mode t d m f n k =
     let b = to_bits binary64 d in
-    ap (λ (r : FromDouble). converted_of mode (operand_of r.number (read_limbs (t ∷ []) d))) (read_is d n)
-    ∙ ap (λ (l : List ℕ). converted_of mode (operand_of (number_of_bits b) l)) (limbs_are t d n)
-    ∙ comes_back mode b m (to_bits-lt binary64 d f) (number_finite d n) k ∙ ap Exact (of_bits-to_bits binary64 d f)
+    let back : converted_of mode (operand_of (number_of_bits b) (read_limbs (t ∷ []) d)) ≡ Ok (Exact d) =
+    ap (λ (l : List ℕ). converted_of mode (operand_of (number_of_bits b) l)) (limbs_are t d n)
+    ∙ comes_back mode b m (to_bits-lt binary64 d f) (number_finite d n) k ∙ ap (λ (v : Float). Ok (Exact v)) (of_bits-to_bits binary64 d f) in
+    (number_of_bits b, (read_is d n, back))

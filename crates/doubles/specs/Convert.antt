@@ -1,7 +1,7 @@
 -- What a number's conversion to a double answers. Definitions only.
 -- Document 01, "Doubles": "A number goes to a double under a mode, selected with 53 bits and unbounded exponent."
 use Prim.Native.Nat.{ℕ, ◌+◌, zero, suc, compare}
-use Rattle.std.specs.Prelude.{Bool, cond, ltb, eqb, ℤ, pos, negsuc, Float}
+use Rattle.std.specs.Prelude.{Bool, cond, ltb, ℤ, pos, negsuc, Float, Result, Ok, Err}
 use Rattle.std.specs.Float.{binary64}
 use Rattle.std.specs.Float.Ieee.{to_bits, size}
 use Rattle.numbers.specs.Operand.{Operand, mantissa, last_weight}
@@ -10,9 +10,14 @@ use Rattle.rounding.specs.declared.Mode.{Mode}
 use Rattle.rounding.specs.Select.{chosen}
 use Rattle.rounding.specs.Answer.{Answer, zero_of, number, too_large, too_small, digits, signed}
 use Rattle.location.specs.Ternary.{ternary_of}
-use Rattle.checks.specs.Check.{converted_refusal}
+use Rattle.checks.specs.declared.Refusal.{Refusal}
+use Rattle.checks.specs.declared.Rule.{Rule}
+use Rattle.checks.specs.declared.Rule.TheVariants.{DoubleTooLarge, DoubleTooSmall}
+use Rattle.checks.specs.declared.Place.TheVariants.{Call}
+use Rattle.checks.specs.Refusal.{rule_number, place_number}
+use Rattle.checks.specs.Check.{then, converted_refusal}
 use Rattle.doubles.specs.declared.Converted.{Converted}
-use Rattle.doubles.specs.declared.Converted.TheVariants.{Exact, Below, Above, Refused}
+use Rattle.doubles.specs.declared.Converted.TheVariants.{Exact, Below, Above}
 use Rattle.unpack.specs.Double.{double_precision, double_least, double_most, sign_bit, packed, double}
 
 -- ---- any format: so many bits, and exponents from least to most, counted
@@ -40,8 +45,8 @@ unfoldable pub in_doubles : Mode → Operand → Answer
 in_doubles mode x = converted_in double_precision double_least double_most mode x
 
 -- 12 and 13 have the place 0
-unfoldable pub outside : ℕ → Converted
-outside rule = Refused (record { rule = rule; place = 0 })
+unfoldable pub outside : Rule → Result Converted Refusal
+outside rule = Err (record { rule = rule; place = Call })
 
 -- the case of each ternary value, the sign of selected minus exact: −1 below, 0 exact, 1 above
 unfoldable pub case_of : ℤ → Float → Converted
@@ -50,17 +55,15 @@ case_of (pos (suc n)) d = Above d
 case_of (negsuc n) d = Below d
 
 -- "exact, with the double; the double lies below the number; it lies above; refused 12 or 13"
-unfoldable pub double_case : Answer → Converted
-double_case (zero_of negative) = Exact (double (sign_bit negative))
-double_case (number negative e d t) = case_of (ternary_of t) (double (packed negative e d))
-double_case too_large = outside 12
-double_case too_small = outside 13
+unfoldable pub double_case : Answer → Result Converted Refusal
+double_case (zero_of negative) = Ok (Exact (double (sign_bit negative)))
+double_case (number negative e d t) = Ok (case_of (ternary_of t) (double (packed negative e d)))
+double_case too_large = outside DoubleTooLarge
+double_case too_small = outside DoubleTooSmall
 
 -- "Comparing and converting check 1 to 5 as far as they have those arguments"
-unfoldable pub converted_of : ℕ → Operand → Converted
-converted_of mode x =
-    let r = converted_refusal mode x in
-    cond (eqb r.rule 0) (double_case (in_doubles (mode_of mode) x)) (Refused r)
+unfoldable pub converted_of : ℕ → Operand → Result Converted Refusal
+converted_of mode x = then (converted_refusal mode x) (double_case (in_doubles (mode_of mode) x))
 
 -- ---- this paper's number and values for each case
 
@@ -71,11 +74,17 @@ pub record Told : Type 0 where
   pub rule : ℕ
   pub place : ℕ
 
-unfoldable pub told : Converted → Told
-told (Exact d) = record { case = pos 0; bits = to_bits binary64 d; rule = 0; place = 0 }
-told (Below d) = record { case = negsuc 0; bits = to_bits binary64 d; rule = 0; place = 0 }
-told (Above d) = record { case = pos 1; bits = to_bits binary64 d; rule = 0; place = 0 }
-told (Refused r) = record { case = pos 0; bits = 0; rule = r.rule; place = r.place }
+unfoldable pub told_case : Converted → Told
+told_case (Exact d) = record { case = pos 0; bits = to_bits binary64 d; rule = 0; place = 0 }
+told_case (Below d) = record { case = negsuc 0; bits = to_bits binary64 d; rule = 0; place = 0 }
+told_case (Above d) = record { case = pos 1; bits = to_bits binary64 d; rule = 0; place = 0 }
+
+unfoldable pub told_refusal : Refusal → Told
+told_refusal r = record { case = pos 0; bits = 0; rule = rule_number r.rule; place = place_number r.place }
+
+unfoldable pub told : Result Converted Refusal → Told
+told (Ok c) = told_case c
+told (Err r) = told_refusal r
 
 -- what is to be told of an answer
 unfoldable pub told_answer : Answer → Told
@@ -84,7 +93,10 @@ told_answer (number negative e d t) = record { case = ternary_of t; bits = packe
 told_answer too_large = record { case = pos 0; bits = 0; rule = 12; place = 0 }
 told_answer too_small = record { case = pos 0; bits = 0; rule = 13; place = 0 }
 
+-- .. and of a call
+unfoldable pub told_call : Result (Unit {0}) Refusal → Told → Told
+told_call (Ok u) t = t
+told_call (Err r) t = told_refusal r
+
 unfoldable pub told_of : ℕ → Operand → Told
-told_of mode x =
-    let r = converted_refusal mode x in
-    cond (eqb r.rule 0) (told_answer (in_doubles (mode_of mode) x)) (record { case = pos 0; bits = 0; rule = r.rule; place = r.place })
+told_of mode x = told_call (converted_refusal mode x) (told_answer (in_doubles (mode_of mode) x))

@@ -1,6 +1,6 @@
 -- The enclosing pair. Definitions only.
 -- Document 01, "Doubles": "The enclosing pair keeps two doubles together, the down answer and the up answer"
-use Rattle.std.specs.Prelude.{ℕ, ◌*◌, ◌^◌, ◌≡◌, true, false, cond, eqb, Float}
+use Rattle.std.specs.Prelude.{ℕ, ◌*◌, ◌^◌, ◌≡◌, true, Float, Result, Ok, Err}
 use Rattle.std.specs.Float.{binary64}
 use Rattle.std.specs.Float.Ieee.{to_bits}
 use Rattle.numbers.specs.Operand.{Operand}
@@ -8,46 +8,28 @@ use Rattle.rounding.specs.Sum.{amount}
 use Rattle.rounding.specs.Paper.{Le}
 use Rattle.rounding.specs.declared.Mode.TheVariants.{Upward, Downward}
 use Rattle.checks.specs.declared.Refusal.{Refusal}
-use Rattle.checks.specs.Check.{accepted, alone_refusal}
+use Rattle.checks.specs.Check.{then, alone_refusal}
 use Rattle.doubles.specs.declared.Converted.{Converted}
-use Rattle.doubles.specs.declared.Converted.TheVariants.{Exact, Below, Above, Refused}
-use Rattle.doubles.specs.declared.Enclosed.{Enclosed}
+use Rattle.doubles.specs.declared.Converted.TheVariants.{Exact, Below, Above}
 use Rattle.doubles.specs.declared.Enclosing.{Enclosing}
-use Rattle.unpack.specs.Double.{sign_bit, double, double_sign, is_finite, double_worth, double_unit}
+use Rattle.unpack.specs.Double.{double_sign, is_finite, double_worth, double_unit}
 use Rattle.doubles.specs.Convert.{in_doubles, double_case}
 
--- the double of an answer, and +0 where it is refused
+-- the double of an answer
 unfoldable pub end_of : Converted → Float
 end_of (Exact d) = d
 end_of (Below d) = d
 end_of (Above d) = d
-end_of (Refused r) = double (sign_bit false)
-
-unfoldable pub refusal_of : Converted → Refusal
-refusal_of (Exact d) = accepted
-refusal_of (Below d) = accepted
-refusal_of (Above d) = accepted
-refusal_of (Refused r) = r
-
--- "Under any refusal both ends are +0"
-unfoldable pub unenclosed_by : Refusal → Enclosed
-unenclosed_by r = record { pair = record { lower = double (sign_bit false); upper = double (sign_bit false) }; refusal = r }
 
 -- "the lower end's refusal is named first"
-unfoldable pub pair_of : Converted → Converted → Enclosed
-pair_of down up =
-    cond (eqb (refusal_of down).rule 0)
-    (cond (eqb (refusal_of up).rule 0)
-    (record { pair = record { lower = end_of down; upper = end_of up }; refusal = accepted })
-    (unenclosed_by (refusal_of up)))
-    (unenclosed_by (refusal_of down))
+unfoldable pub pair_of : Result Converted Refusal → Result Converted Refusal → Result Enclosing Refusal
+pair_of (Ok down) (Ok up) = Ok (record { lower = end_of down; upper = end_of up })
+pair_of (Ok down) (Err r) = Err r
+pair_of (Err r) up = Err r
 
--- checks 2 to 5, then mode 3, down, and mode 2, up
-unfoldable pub enclosed_of : Operand → Enclosed
-enclosed_of x =
-    cond (eqb (alone_refusal x).rule 0)
-    (pair_of (double_case (in_doubles Downward x)) (double_case (in_doubles Upward x)))
-    (unenclosed_by (alone_refusal x))
+-- checks 2 to 5, then the down answer and the up answer
+unfoldable pub enclosed_of : Operand → Result Enclosing Refusal
+enclosed_of x = then (alone_refusal x) (pair_of (double_case (in_doubles Downward x)) (double_case (in_doubles Upward x)))
 
 -- "the number is a double": finite bits of its sign and its worth
 pub record IsDouble (x : Operand) : Type 0 where

@@ -3,25 +3,24 @@ use mathlib.Core.Path.{◌≡◌, sym, ap, ◌∙◌, refl}
 use mathlib.Core.Bool.{Bool, true, false, not, ◌&&◌, ◌||◌, beq, cond, true≢false}
 use mathlib.Core.List.{List, []}
 use Prim.Native.Nat.{ℕ, ◌^◌, ◌<◌, compare, Ordering}
-use borrow.Author.Tests.{ne_eqb}
 use Rattle.limb.specs.Value.{Below}
 use Rattle.numbers.specs.Limits.{counted}
 use Rattle.checks.specs.declared.Number.{Number}
 use Rattle.checks.specs.Number.{is_zero_kind, operand_of}
 use Rattle.checks.specs.declared.Refusal.{Refusal}
-use Rattle.checks.specs.Check.{accepted, compared_refusal}
-use Rattle.checks.specs.Passes.{Passes}
-use Rattle.checks.proofs.Passing.{compared_passes}
-use Rattle.checks.proofs.Accepted.{passes_well_formed, accepted_both, compared_unrefused}
+use Rattle.checks.specs.Check.{answered, compared_refusal}
+use Rattle.checks.proofs.Accepted.{accepted_compared, compared_unrefused}
 use Rattle.rounding.proofs.Order.{compare_at}
-use Rattle.order.specs.declared.Order.{Order}
-use Rattle.order.specs.declared.Order.TheVariants.{Less, Equal, Greater}
+use Rattle.std.specs.Prelude.{Ok, Err}
+use Rattle.std.specs.Ordering.{ordering_reverse}
+use Rattle.std.specs.declared.cmp.Ordering.{Ordering as Order}
+use Rattle.std.specs.declared.cmp.Ordering.TheVariants.{Less, Equal, Greater}
 use Rattle.order.specs.Order.{order_of, case_of, compared_of}
-use Rattle.order.specs.Steps.{or_else, aligned_order, regular_order, size_order, reversed, turned_case, reversed_if, same_order, apart_order, signed_order}
+use Rattle.order.specs.Steps.{or_else, aligned_order, regular_order, size_order, reversed, reversed_if, same_order, apart_order, signed_order}
 use Rattle.order.proofs.Sizes.{order_found}
 
-case_turned : (turn : Bool) (o : Ordering) → cond turn (turned_case (case_of o)) (case_of o) ≡ case_of (reversed_if turn o)
-unfolding turned_case case_of reversed reversed_if
+case_turned : (turn : Bool) (o : Ordering) → cond turn (ordering_reverse (case_of o)) (case_of o) ≡ case_of (reversed_if turn o)
+unfolding case_of reversed reversed_if
 case_turned false o = refl
 case_turned true Ordering.lt = refl
 case_turned true Ordering.eq = refl
@@ -70,10 +69,10 @@ module _ (x y : Number) (xl yl : List ℕ) where
     pub exponent_above : not (beq l x.negative) ≡ false → Greater ≡ case_of (reversed_if x.negative (regular_order (operand_of x xl) (operand_of y yl)))
     exponent_above h = sym (other_exponent ∙ rw h)
 
-  pub same_exponent : {r s : Order} → counted x.exponent ≡ counted y.exponent → s ≡ case_of (aligned_order xl yl) → r ≡ cond x.negative (turned_case s) s → r ≡ case_of (reversed_if x.negative (regular_order (operand_of x xl) (operand_of y yl)))
+  pub same_exponent : {r s : Order} → counted x.exponent ≡ counted y.exponent → s ≡ case_of (aligned_order xl yl) → r ≡ cond x.negative (ordering_reverse s) s → r ≡ case_of (reversed_if x.negative (regular_order (operand_of x xl) (operand_of y yl)))
   unfolding or_else
   same_exponent h f e =
-      e ∙ ap (λ (s : Order). cond x.negative (turned_case s) s) f ∙ case_turned x.negative (aligned_order xl yl)
+      e ∙ ap (λ (s : Order). cond x.negative (ordering_reverse s) s) f ∙ case_turned x.negative (aligned_order xl yl)
       ∙ sym (ap (λ (o : Ordering). case_of (reversed_if x.negative o)) (by_exponent Ordering.eq (compare_at Ordering.eq _ _ h)))
 
   -- ---- one sign: a zero decides ..
@@ -127,15 +126,15 @@ zeros_alone x y xl yl h e = e ∙ zeros_found x y [] [] h ∙ sym (zeros_found x
 
 -- ---- the answer of a comparison
 
--- where one does not pass, the refusal has a number
-pub compared_refused : (x y : Number) (xl yl : List ℕ) (r : Refusal) → r ≡ compared_refusal (operand_of x xl) (operand_of y yl) → (Passes (operand_of x xl) × Passes (operand_of y yl) → ⊥) → record { order = Equal; refusal = r } ≡ compared_of x xl y yl
-unfolding compared_of
-compared_refused x y xl yl r p h =
-    rw (← p, ne_eqb r.rule 0 (λ e. h (accepted_both (operand_of x xl) (operand_of y yl) (compared_unrefused (operand_of x xl) (operand_of y yl) (rw p at e)))))
+-- where one does not pass, the refusal is the answer
+pub compared_refused : (x y : Number) (xl yl : List ℕ) (r : Refusal) → compared_refusal (operand_of x xl) (operand_of y yl) ≡ Err r → Err r ≡ compared_of x xl y yl
+unfolding compared_of answered
+compared_refused x y xl yl r e = rw e
 
--- both pass, so nothing is refused and both are of good form, and the order that is found is the order
-pub compared_found : (x y : Number) (xl yl : List ℕ) (o : Order) → Passes (operand_of x xl) → Passes (operand_of y yl) → Below (2 ^ 64) xl → Below (2 ^ 64) yl → o ≡ case_of (signed_order (operand_of x xl) (operand_of y yl)) → record { order = o; refusal = accepted } ≡ compared_of x xl y yl
-unfolding compared_of accepted operand_of
-compared_found x y xl yl o p q wx wy e =
-    let f : o ≡ case_of (order_of (operand_of x xl) (operand_of y yl)) = e ∙ ap case_of (sym (order_found (operand_of x xl) (operand_of y yl) (passes_well_formed (operand_of x xl) wx p) (passes_well_formed (operand_of y yl) wy q))) in
-    rw (compared_passes (operand_of x xl) (operand_of y yl) p q, f)
+-- nothing is refused, so both are of good form, and the order that is found is the order
+pub compared_found : (x y : Number) (xl yl : List ℕ) (o : Order) (u : Unit {0}) → compared_refusal (operand_of x xl) (operand_of y yl) ≡ Ok u → Below (2 ^ 64) xl → Below (2 ^ 64) yl → o ≡ case_of (signed_order (operand_of x xl) (operand_of y yl)) → Ok o ≡ compared_of x xl y yl
+unfolding compared_of answered operand_of
+compared_found x y xl yl o u a wx wy e =
+    let formed = accepted_compared (operand_of x xl) (operand_of y yl) wx wy (compared_unrefused (operand_of x xl) (operand_of y yl) u a) in
+    let f : o ≡ case_of (order_of (operand_of x xl) (operand_of y yl)) = e ∙ ap case_of (sym (order_found (operand_of x xl) (operand_of y yl) formed.0 formed.1)) in
+    rw (a, f)

@@ -16,7 +16,13 @@ use Rattle.checks.specs.declared.Number.{Number}
 use Rattle.checks.specs.declared.Kind.{Kind}
 use Rattle.checks.specs.declared.Kind.TheVariants.{Regular, Zero}
 use Rattle.checks.specs.Number.{is_zero_kind, operand_of}
-use Rattle.checks.specs.Check.{accepted, first_refusal, precision_holds, length_holds, exponent_holds, top_bit_holds, spare_bits_hold, form_holds, compared_refusal}
+use Rattle.checks.specs.Check.{accepted, first_refusal, answered, answered, precision_holds, length_holds, exponent_holds, top_bit_holds, spare_bits_hold, form_holds, compared_refusal}
+use Rattle.std.specs.Prelude.{Result, Ok, Err}
+use Rattle.std.specs.declared.cmp.Ordering.{Ordering as Order}
+use Rattle.std.specs.declared.cmp.Ordering.TheVariants.{Less, Equal, Greater}
+use Rattle.checks.specs.declared.Refusal.{Refusal}
+use Rattle.checks.specs.declared.Rule.TheVariants.{Precision}
+use Rattle.checks.specs.declared.Place.TheVariants.{First, Second}
 use Rattle.order.specs.Order.{order_of, case_of, number_of, sign_of, compared_of}
 
 -- ---- the order is the sign of x - y, the sum of x and the turned y
@@ -76,18 +82,17 @@ none n = given n Zero 2 (pos 0) (5 ∷ [])
 abbrev one_digit : Given
 one_digit = given true Regular 1 (pos 0) (2 ^ 63 ∷ [])
 
--- document 01's number, the refusal's number and its place
-abbrev told : Given → Given → ℤ × ℕ × ℕ
-told x y = let c = compared_of x.0 x.1 y.0 y.1 in (number_of c.order, c.refusal.rule, c.refusal.place)
+abbrev told : Given → Given → Result Order Refusal
+told x y = compared_of x.0 x.1 y.0 y.1
 
-abbrev less : ℤ × ℕ × ℕ
-less = (negsuc 0, 0, 0)
+abbrev less : Result Order Refusal
+less = Ok Less
 
-abbrev equal : ℤ × ℕ × ℕ
-equal = (pos 0, 0, 0)
+abbrev equal : Result Order Refusal
+equal = Ok Equal
 
-abbrev greater : ℤ × ℕ × ℕ
-greater = (pos 1, 0, 0)
+abbrev greater : Result Order Refusal
+greater = Ok Greater
 
 -- by size, by sign, by exponent, by the limbs below; the zeros; and a refused comparison
 pub compared :
@@ -104,9 +109,14 @@ pub compared :
     ∷ told one_digit one
     ∷ told one one_digit
     ∷ []
-    ≡ less ∷ greater ∷ greater ∷ less ∷ greater ∷ equal ∷ less ∷ equal ∷ greater ∷ less ∷ (pos 0, 2, 1) ∷ (pos 0, 2, 2) ∷ []
-unfolding compared_of number_of case_of order_of scale share amount mantissa last_weight value_in compared_refusal first_refusal accepted precision_holds length_holds exponent_holds form_holds top_bit_holds spare_bits_hold operand_of is_zero_kind counted bias least_precision most_precision least_exponent most_exponent limbs_for spare_bits
+    ≡ less ∷ greater ∷ greater ∷ less ∷ greater ∷ equal ∷ less ∷ equal ∷ greater ∷ less ∷ Err (record { rule = Precision; place = First }) ∷ Err (record { rule = Precision; place = Second }) ∷ []
+unfolding compared_of answered case_of order_of scale share amount mantissa last_weight value_in compared_refusal first_refusal accepted precision_holds length_holds exponent_holds form_holds top_bit_holds spare_bits_hold operand_of is_zero_kind counted bias least_precision most_precision least_exponent most_exponent limbs_for spare_bits
 compared = refl
+
+-- document 01's number for each order
+pub order_numbers : (number_of Less ≡ negsuc 0) × (number_of Equal ≡ pos 0) × (number_of Greater ≡ pos 1)
+unfolding number_of
+order_numbers = (refl, refl, refl)
 
 -- the sign as a number
 pub sign_numbers : (sign_of Ordering.lt ≡ negsuc 0) × (sign_of Ordering.eq ≡ pos 0) × (sign_of Ordering.gt ≡ pos 1)

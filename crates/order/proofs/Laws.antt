@@ -1,22 +1,22 @@
 -- The order of two numbers is an order: equal to itself, reversed with its operands, and so under a turn of both signs. Assumes nothing.
 use mathlib.Core.Path.{◌≡◌, refl, sym, ap, ◌∙◌}
 use mathlib.Core.Logic.{inl, inr}
-use mathlib.Core.Bool.{Bool, true, false, cond}
+use mathlib.Core.Bool.{Bool, true, false}
 use Prim.Native.Nat.{ℕ, ◌+◌, compare, Ordering}
 use native.Mathlib.Nat.{add_comm}
 use mathlib.Core.List.{List}
-use lib.Dec.{eqb}
-use lib.IntN.{pos, neg_ℤ}
+use lib.IntN.{neg_ℤ}
 use Rattle.numbers.specs.Operand.{Operand, turned}
 use Rattle.checks.specs.declared.Number.{Number}
 use Rattle.checks.specs.Number.{operand_of}
-use Rattle.checks.specs.Check.{compared_refusal}
+use Rattle.checks.specs.Check.{compared_refusal, answered}
 use Rattle.rounding.specs.Sum.{scale, share}
 use Rattle.rounding.proofs.Order.{compare_at}
 use Rattle.rounding.proofs.Zeros.{share_zero, scale_commutes}
 use Rattle.rounding.proofs.Mirror.{share_turned, scale_turned}
 use Rattle.order.specs.Order.{order_of, case_of, number_of, sign_of, compared_of}
-use Rattle.order.specs.declared.Order.TheVariants.{Equal}
+use Rattle.std.specs.Prelude.{Result, Ok, Err, MatchResult}
+use Rattle.checks.specs.declared.Refusal.{Refusal}
 use Rattle.order.specs.Steps.{reversed}
 use Rattle.order.proofs.Sizes.{compare_reversed}
 
@@ -34,14 +34,15 @@ case_number Ordering.lt = refl
 case_number Ordering.eq = refl
 case_number Ordering.gt = refl
 
--- "a refused comparison gives 0 beside its number", and an accepted one the sign of x - y
-pub compared_number : (x y : Number) (xl yl : List ℕ) → let a = operand_of x xl in let b = operand_of y yl in number_of (compared_of x xl y yl).order ≡ cond (eqb (compared_refusal a b).rule 0) (sign_of (order_of a b)) (pos 0)
-unfolding compared_of number_of
-compared_number x y xl yl = go (eqb (compared_refusal (operand_of x xl) (operand_of y yl)).rule 0) (order_of (operand_of x xl) (operand_of y yl))
+-- a refused comparison is its refusal, and an accepted one the sign of x - y
+pub compared_number : (x y : Number) (xl yl : List ℕ) → let a = operand_of x xl in let b = operand_of y yl in
+    MatchResult (compared_refusal a b) (λ u. compared_of x xl y yl ≡ Ok (case_of (order_of a b)) × number_of (case_of (order_of a b)) ≡ sign_of (order_of a b)) (λ r. compared_of x xl y yl ≡ Err r)
+unfolding compared_of answered
+compared_number x y xl yl = go (compared_refusal (operand_of x xl) (operand_of y yl)) (order_of (operand_of x xl) (operand_of y yl))
   where
-    go : (b : Bool) (o : Ordering) → number_of (cond b (case_of o) Equal) ≡ cond b (sign_of o) (pos 0)
-    go true o = case_number o
-    go false o = refl
+    go : (c : Result (Unit {0}) Refusal) (o : Ordering) → MatchResult c (λ u. answered c (case_of o) ≡ Ok (case_of o) × number_of (case_of o) ≡ sign_of o) (λ r. answered c (case_of o) ≡ Err r)
+    go (Ok u) o = (refl, case_number o)
+    go (Err r) o = refl
 
 pub equal_itself : (x : Operand) → order_of x x ≡ Ordering.eq
 unfolding order_of

@@ -1,15 +1,15 @@
 -- The order of two numbers, and what a comparison answers. Definitions only.
 -- Document 01: "compare (−1, 0, 1; the two zeros are equal)".
 use Prim.Native.Nat.{ℕ, ◌+◌, compare, Ordering}
-use Rattle.std.specs.Prelude.{true, false, cond, List, eqb, ℤ, pos, negsuc}
+use Rattle.std.specs.Prelude.{true, false, List, ℤ, pos, negsuc, Result}
+use Rattle.std.specs.declared.cmp.Ordering.{Ordering as Order}
+use Rattle.std.specs.declared.cmp.Ordering.TheVariants.{Less, Equal, Greater}
 use Rattle.numbers.specs.Operand.{Operand}
 use Rattle.rounding.specs.Sum.{scale, share}
 use Rattle.checks.specs.declared.Number.{Number}
+use Rattle.checks.specs.declared.Refusal.{Refusal}
 use Rattle.checks.specs.Number.{operand_of}
-use Rattle.checks.specs.Check.{compared_refusal}
-use Rattle.order.specs.declared.Order.{Order}
-use Rattle.order.specs.declared.Order.TheVariants.{Less, Equal, Greater}
-use Rattle.order.specs.declared.Compared.{Compared}
+use Rattle.checks.specs.Check.{compared_refusal, answered}
 
 -- the sign of x - y, in whole numbers: what is positive in it against what is negative
 unfoldable pub order_of : Operand → Operand → Ordering
@@ -34,10 +34,9 @@ sign_of Ordering.lt = negsuc 0
 sign_of Ordering.eq = pos 0
 sign_of Ordering.gt = pos 1
 
--- "Comparing and converting check 1 to 5 as far as they have those arguments; a refused comparison gives 0 beside its number."
-unfoldable pub compared_of : Number → List ℕ → Number → List ℕ → Compared
+-- "Comparing and converting check 1 to 5 as far as they have those arguments"
+unfoldable pub compared_of : Number → List ℕ → Number → List ℕ → Result Order Refusal
 compared_of x xl y yl =
     let a = operand_of x xl in
     let b = operand_of y yl in
-    let r = compared_refusal a b in
-    record { order = cond (eqb r.rule 0) (case_of (order_of a b)) Equal; refusal = r }
+    answered (compared_refusal a b) (case_of (order_of a b))

@@ -4,8 +4,6 @@ use Rattle.std.specs.Prelude.{Bool, cond, ◌&&◌, List, ltb, length, get_or}
 use Rattle.std.specs.Bool.{beq}
 use Rattle.limb.specs.Value.{value_of}
 use Rattle.numbers.specs.Operand.{Operand}
-use Rattle.order.specs.declared.Order.{Order}
-use Rattle.order.specs.declared.Order.TheVariants.{Less, Equal, Greater}
 
 -- limb i from the top; below the lowest stands 0
 unfoldable pub from_top : List ℕ → ℕ → ℕ
@@ -34,11 +32,6 @@ unfoldable pub reversed : Ordering → Ordering
 reversed Ordering.lt = Ordering.gt
 reversed Ordering.eq = Ordering.eq
 reversed Ordering.gt = Ordering.lt
-
-unfoldable pub turned_case : Order → Order
-turned_case Less = Greater
-turned_case Equal = Equal
-turned_case Greater = Less
 
 -- an order, turned round where so said
 unfoldable pub reversed_if : Bool → Ordering → Ordering

@@ -1,33 +1,14 @@
 // The order of two numbers.
 #![tactic(auto)]
 
-ghost use Rattle.std.specs.Prelude.{◌≡◌, true, cond, ◌||◌, List, [], ℕ, ◌+◌, ◌≤◌, length};
+ghost use Rattle.std.specs.Prelude.{◌≡◌, true, cond, ◌||◌, List, [], ℕ, length};
+ghost use Rattle.std.specs.Ordering.{ordering_reverse};
 ghost use Rattle.checks.specs.Number.{is_zero_kind, operand_of};
-ghost use Rattle.checks.specs.Passes.{Passes};
 ghost use Rattle.order.specs.Order.{case_of, compared_of};
-ghost use Rattle.order.specs.Steps.{from_top, aligned_order, regular_order, reversed_if, same_order, apart_order, signed_order, turned_case};
+ghost use Rattle.order.specs.Steps.{from_top, aligned_order, regular_order, reversed_if, same_order, apart_order, signed_order};
 
 use checks::{Number, Refusal};
-
-#[derive(Clone, Copy)]
-pub enum Order {
-    Less,
-    Equal,
-    Greater,
-}
-
-// The order, and the refusal; a refused comparison is Equal beside its number and place.
-#[derive(Clone, Copy)]
-pub struct Compared {
-    pub order: Order,
-    pub refusal: Refusal,
-}
-
-fn longer(a: usize, b: usize) -> usize
-    ensures { (a ≤ result) × (b ≤ result) × (result ≤ a + b) }
-{
-    if a < b { b } else { a }
-}
+use std::cmp::Ordering;
 
 // Limb i of a number of that precision, counted from the top; below the lowest limb stands 0.
 fn from_top(limbs: &[u64], precision: u64, i: usize) -> u64
@@ -44,47 +25,42 @@ fn from_top(limbs: &[u64], precision: u64, i: usize) -> u64
 //
 //     x   [top] [   ] [   ] [low]
 //     y   [top] [low]   0     0
-fn order_padded(xl: &[u64], xp: u64, yl: &[u64], yp: u64) -> Order
+fn order_padded(xl: &[u64], xp: u64, yl: &[u64], yp: u64) -> Ordering
     ensures { result ≡ case_of (aligned_order xl.now yl.now) }
 {
-    let n = longer(xl.len(), yl.len());
-    let mut i = 0;
-    while i < n {
+    for i in 0..xl.len().max(yl.len()) {
         let a = from_top(xl, xp, i);
         let b = from_top(yl, yp, i);
         if a < b {
-            return Order::Less;
+            return Ordering::Less;
         }
         if b < a {
-            return Order::Greater;
+            return Ordering::Greater;
         }
-        i += 1;
     }
-    Order::Equal
+    Ordering::Equal
 }
 
 // Two mantissas of as many limbs: no end is looked for on the way.
-fn order_alike(xl: &[u64], xp: u64, yl: &[u64], yp: u64) -> Order
+fn order_alike(xl: &[u64], xp: u64, yl: &[u64], yp: u64) -> Ordering
     requires { length xl.now ≡ length yl.now }
     ensures { result ≡ case_of (aligned_order xl.now yl.now) }
 {
-    let mut i = xl.len();
-    while 0 < i {
-        i -= 1;
+    for i in (0..xl.len()).rev() {
         let a = checks::fetch(xl, xp, i);
         let b = checks::fetch(yl, yp, i);
         if a != b {
             if a < b {
-                return Order::Less;
+                return Ordering::Less;
             }
-            return Order::Greater;
+            return Ordering::Greater;
         }
     }
-    Order::Equal
+    Ordering::Equal
 }
 
 // Two mantissas by their limbs.
-fn order_limbs(xl: &[u64], xp: u64, yl: &[u64], yp: u64) -> Order
+fn order_limbs(xl: &[u64], xp: u64, yl: &[u64], yp: u64) -> Ordering
     ensures { result ≡ case_of (aligned_order xl.now yl.now) }
 {
     if xl.len() == yl.len() {
@@ -93,37 +69,26 @@ fn order_limbs(xl: &[u64], xp: u64, yl: &[u64], yp: u64) -> Order
     order_padded(xl, xp, yl, yp)
 }
 
-// The order of the same two, the other way round.
-fn turned(order: Order) -> Order
-    ensures { result ≡ turned_case order }
+// The order, turned round where so said.
+fn turned_if(turn: bool, order: Ordering) -> Ordering
+    ensures { result ≡ cond turn (ordering_reverse order) order }
 {
-    match order {
-        Order::Less => Order::Greater,
-        Order::Equal => Order::Equal,
-        Order::Greater => Order::Less,
-    }
-}
-
-// The order, or that one where so said.
-fn turned_if(turn: bool, order: Order) -> Order
-    ensures { result ≡ cond turn (turned_case order) order }
-{
-    if turn { turned(order) } else { order }
+    if turn { order.reverse() } else { order }
 }
 
 // Two regular numbers of one sign with different exponents: these decide, and a negative sign turns what they say.
-pub fn order_exponents(x: Number, y: Number) -> Order
+pub fn order_exponents(x: Number, y: Number) -> Ordering
     requires { x.exponent ≡ y.exponent → ⊥ }
     ensures { (xl yl : List ℕ) → result ≡ case_of (reversed_if x.negative (regular_order (operand_of x xl) (operand_of y yl))) }
 {
     if (x.exponent < y.exponent) != x.negative {
-        return Order::Less;
+        return Ordering::Less;
     }
-    Order::Greater
+    Ordering::Greater
 }
 
 // Two regular numbers of one sign, one exponent and as many limbs: these decide.
-pub fn order_level(x: Number, xl: &[u64], y: Number, yl: &[u64]) -> Order
+pub fn order_level(x: Number, xl: &[u64], y: Number, yl: &[u64]) -> Ordering
     requires { (x.exponent ≡ y.exponent) × (length xl.now ≡ length yl.now) }
     ensures { result ≡ case_of (reversed_if x.negative (regular_order (operand_of x xl.now) (operand_of y yl.now))) }
 {
@@ -131,7 +96,7 @@ pub fn order_level(x: Number, xl: &[u64], y: Number, yl: &[u64]) -> Order
 }
 
 // Two regular numbers of one sign: the exponents decide, else the limbs, and a negative sign turns what they say.
-fn order_regular(x: Number, xl: &[u64], y: Number, yl: &[u64]) -> Order
+fn order_regular(x: Number, xl: &[u64], y: Number, yl: &[u64]) -> Ordering
     ensures { result ≡ case_of (reversed_if x.negative (regular_order (operand_of x xl.now) (operand_of y yl.now))) }
 {
     if x.exponent != y.exponent {
@@ -141,23 +106,23 @@ fn order_regular(x: Number, xl: &[u64], y: Number, yl: &[u64]) -> Order
 }
 
 // Two numbers of one sign, one of them a zero: it is below a positive number and above a negative one.
-fn order_zeros(x: Number, y: Number) -> Order
+fn order_zeros(x: Number, y: Number) -> Ordering
     requires { is_zero_kind x.kind || is_zero_kind y.kind ≡ true }
     ensures { result ≡ case_of (same_order (operand_of x []) (operand_of y [])) }
 {
     let first = checks::is_zero(x);
     let second = checks::is_zero(y);
     if first & second {
-        return Order::Equal;
+        return Ordering::Equal;
     }
     if first != x.negative {
-        return Order::Less;
+        return Ordering::Less;
     }
-    Order::Greater
+    Ordering::Greater
 }
 
 // Two numbers of one sign: of two negative ones the larger in size is below.
-fn order_same(x: Number, xl: &[u64], y: Number, yl: &[u64]) -> Order
+fn order_same(x: Number, xl: &[u64], y: Number, yl: &[u64]) -> Ordering
     ensures { result ≡ case_of (same_order (operand_of x xl.now) (operand_of y yl.now)) }
 {
     if checks::is_zero(x) | checks::is_zero(y) {
@@ -167,22 +132,22 @@ fn order_same(x: Number, xl: &[u64], y: Number, yl: &[u64]) -> Order
 }
 
 // Two numbers of different signs: the negative one is below, save that the two zeros are equal.
-pub fn order_apart(x: Number, y: Number) -> Order
+pub fn order_apart(x: Number, y: Number) -> Ordering
     ensures { result ≡ case_of (apart_order (operand_of x []) (operand_of y [])) }
 {
     let xz = checks::is_zero(x);
     let yz = checks::is_zero(y);
     if xz & yz {
-        return Order::Equal;
+        return Ordering::Equal;
     }
     if x.negative {
-        return Order::Less;
+        return Ordering::Less;
     }
-    Order::Greater
+    Ordering::Greater
 }
 
 // Two accepted numbers, by their signs first.
-fn order_accepted(x: Number, xl: &[u64], y: Number, yl: &[u64]) -> Order
+fn order_accepted(x: Number, xl: &[u64], y: Number, yl: &[u64]) -> Ordering
     ensures { result ≡ case_of (signed_order (operand_of x xl.now) (operand_of y yl.now)) }
 {
     if x.negative != y.negative {
@@ -191,32 +156,10 @@ fn order_accepted(x: Number, xl: &[u64], y: Number, yl: &[u64]) -> Order
     order_same(x, xl, y, yl)
 }
 
-// The answer where one of the two numbers is refused.
-fn refused(x: Number, xl: &[u64], y: Number, yl: &[u64]) -> Compared
-    requires { Passes (operand_of x xl.now) × Passes (operand_of y yl.now) → ⊥ }
+// The order of two numbers, once refusals 2 to 5 are checked.
+pub fn compare(x: Number, xl: &[u64], y: Number, yl: &[u64]) -> Result<Ordering, Refusal>
     ensures { result ≡ compared_of x xl.now y yl.now }
 {
-    Compared {
-        order: Order::Equal,
-        refusal: refusals::refuse_operands(0, x, xl, y, yl),
-    }
-}
-
-// The order of two numbers, once refusals 2 to 5 are checked. A refusal is told of numbers and slices of its own, so that where both pass
-// they need not stand in memory.
-pub fn compare(x: Number, xl: &[u64], y: Number, yl: &[u64]) -> Compared
-    ensures { result ≡ compared_of x xl.now y yl.now }
-{
-    if !admission::passes(x, xl) {
-        return refused(checks::copied(x), &xl[..], checks::copied(y), &yl[..]);
-    }
-    if !admission::passes(y, yl) {
-        return refused(checks::copied(x), &xl[..], checks::copied(y), &yl[..]);
-    }
-    let order = order_accepted(x, xl, y, yl);
-    let none = Refusal { rule: 0, place: 0 };
-    Compared {
-        order: order,
-        refusal: none,
-    }
+    admission::check_compared(x, xl, y, yl)?;
+    Ok(order_accepted(x, xl, y, yl))
 }

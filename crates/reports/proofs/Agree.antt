@@ -3,7 +3,7 @@ use mathlib.Core.Path.{◌≡◌, refl, sym, ap, ◌∙◌}
 use mathlib.Core.Bool.{Bool, true, false, ◌&&◌}
 use mathlib.Core.List.{List}
 use Prim.Native.Nat.{ℕ}
-use native.Mathlib.Decide.{ℕ_discrete}
+use Rattle.std.specs.Prelude.{Result, Ok, Err}
 use lib.ListN.{length}
 use Rattle.numbers.specs.Operand.{Operand, zero_like}
 use Rattle.rounding.specs.Mode.{mode_of}
@@ -19,14 +19,10 @@ use Rattle.reports.specs.declared.report.Sum.{Sum}
 use Rattle.reports.specs.Summed.{sum_of, Reported, Refused, Summed, Rerounded}
 
 -- nothing is refused, or something is
-pub accepted_or : (c : Refusal) → Dec (c ≡ accepted)
+pub accepted_or : (c : Result (Unit {0}) Refusal) → Dec (c ≡ accepted)
 unfolding accepted
-accepted_or c = go (ℕ_discrete c.rule 0) (ℕ_discrete c.place 0)
-  where
-    go : Dec (c.rule ≡ 0) → Dec (c.place ≡ 0) → Dec (c ≡ accepted)
-    go (yes a) (yes b) = yes (let x : c ≡ record { rule = c.rule; place = c.place } = refl in x ∙ ap (λ (n : ℕ). record { rule = n; place = c.place }) a ∙ ap (λ (n : ℕ). record { rule = 0; place = n }) b)
-    go (no n) b = no (λ e. n (ap (λ (r : Refusal). r.rule) e))
-    go (yes a) (no n) = no (λ e. n (ap (λ (r : Refusal). r.place) e))
+accepted_or (Ok u) = yes refl
+accepted_or (Err r) = no (λ e. cc e)
 
 -- one answer and one state of the target
 abbrev Same : Sum → List ℕ → Sum → List ℕ → Type 0
@@ -50,16 +46,18 @@ refused_unique c entry r s exit left a b = (a.answer ∙ sym b.answer, a.target 
 
 pub summed_unique : (f : Operation) (mode : ℕ) (x : Number) (xl : List ℕ) (y : Number) (yl : List ℕ) (p : ℕ) (entry : List ℕ) (r s : Sum) (exit left : List ℕ)
     → Summed f mode x xl y yl p entry exit r → Summed f mode x xl y yl p entry left s → Same r exit s left
-summed_unique f mode x xl y yl p entry r s exit left a b = go (accepted_or (pair_refusal mode (operand_of x xl) (operand_of y yl) p (length entry)))
+unfolding accepted
+summed_unique f mode x xl y yl p entry r s exit left a b = go (pair_refusal mode (operand_of x xl) (operand_of y yl) p (length entry)) refl
   where
-    go : Dec (pair_refusal mode (operand_of x xl) (operand_of y yl) p (length entry) ≡ accepted) → Same r exit s left
-    go (yes e) = reported_unique f (mode_of mode) p (operand_of x xl) (operand_of y yl) r s exit left (a.reported e) (b.reported e)
-    go (no n) = refused_unique _ entry r s exit left (a.refused n) (b.refused n)
+    go : (c : Result (Unit {0}) Refusal) → pair_refusal mode (operand_of x xl) (operand_of y yl) p (length entry) ≡ c → Same r exit s left
+    go (Ok u) e = reported_unique f (mode_of mode) p (operand_of x xl) (operand_of y yl) r s exit left (a.reported e) (b.reported e)
+    go (Err c) e = refused_unique c entry r s exit left (a.refused c e) (b.refused c e)
 
 pub rerounded_unique : (mode : ℕ) (x : Number) (xl : List ℕ) (p : ℕ) (entry : List ℕ) (r s : Sum) (exit left : List ℕ)
     → Rerounded mode x xl p entry exit r → Rerounded mode x xl p entry left s → Same r exit s left
-rerounded_unique mode x xl p entry r s exit left a b = go (accepted_or (single_refusal mode (operand_of x xl) p (length entry)))
+unfolding accepted
+rerounded_unique mode x xl p entry r s exit left a b = go (single_refusal mode (operand_of x xl) p (length entry)) refl
   where
-    go : Dec (single_refusal mode (operand_of x xl) p (length entry) ≡ accepted) → Same r exit s left
-    go (yes e) = reported_unique plus (mode_of mode) p (operand_of x xl) (zero_like (operand_of x xl)) r s exit left (a.reported e) (b.reported e)
-    go (no n) = refused_unique _ entry r s exit left (a.refused n) (b.refused n)
+    go : (c : Result (Unit {0}) Refusal) → single_refusal mode (operand_of x xl) p (length entry) ≡ c → Same r exit s left
+    go (Ok u) e = reported_unique plus (mode_of mode) p (operand_of x xl) (zero_like (operand_of x xl)) r s exit left (a.reported e) (b.reported e)
+    go (Err c) e = refused_unique c entry r s exit left (a.refused c e) (b.refused c e)

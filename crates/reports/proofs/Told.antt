@@ -6,7 +6,9 @@ use native.Mathlib.Omega.{arith}
 use lib.IntN.{ℤ}
 use Rattle.rounding.specs.Answer.{Answer, zero_of, number, too_large, too_small}
 use Rattle.checks.specs.declared.Kind.TheVariants.{Regular}
-use Rattle.checks.specs.Check.{accepted}
+use Rattle.std.specs.Prelude.{Ok}
+use Rattle.checks.specs.declared.Rule.TheVariants.{TooLarge, TooSmall}
+use Rattle.checks.specs.declared.Place.TheVariants.{Target}
 use Rattle.checks.specs.Number.{exponent_of}
 use Rattle.place.specs.declared.Placed.{Placed}
 use Rattle.place.specs.Placed.{placed_of}
@@ -15,13 +17,21 @@ use Rattle.reports.specs.Summed.{sum_of, refused_sum}
 use Rattle.reports.specs.Signed.{Signed}
 
 module _ (negative : Bool) (p depth first second : ℕ) (placed : Placed) where
-  pub refused_told : (placed.rule ≡ 0 → ⊥) → {s : Sum} → s ≡ refused_sum (record { rule = placed.rule; place = 3 }) depth first second
+  pub large_told : placed.rule ≡ 6 → {s : Sum} → s ≡ refused_sum (record { rule = TooLarge; place = Target }) depth first second
       → (a : Answer) → Signed negative a → placed ≡ placed_of a → s ≡ sum_of a p depth first second
   unfolding sum_of placed_of
-  refused_told h e (zero_of n) g f = absurd (h (ap (λ (q : Placed). q.rule) f))
-  refused_told h e (number n x m t) g f = absurd (h (ap (λ (q : Placed). q.rule) f))
-  refused_told h e too_large g f = e ∙ ap (λ (q : Placed). refused_sum (record { rule = q.rule; place = 3 }) depth first second) f
-  refused_told h e too_small g f = e ∙ ap (λ (q : Placed). refused_sum (record { rule = q.rule; place = 3 }) depth first second) f
+  large_told h e (zero_of n) g f = absurd (let z : 0 ≡ 6 = ap (λ (q : Placed). q.rule) (sym f) ∙ h in omega arith)
+  large_told h e (number n x m t) g f = absurd (let z : 0 ≡ 6 = ap (λ (q : Placed). q.rule) (sym f) ∙ h in omega arith)
+  large_told h e too_large g f = e
+  large_told h e too_small g f = absurd (let z : 7 ≡ 6 = ap (λ (q : Placed). q.rule) (sym f) ∙ h in omega arith)
+
+  pub small_told : (placed.rule ≡ 6 → ⊥) → (placed.rule ≡ 0 → ⊥) → {s : Sum} → s ≡ refused_sum (record { rule = TooSmall; place = Target }) depth first second
+      → (a : Answer) → Signed negative a → placed ≡ placed_of a → s ≡ sum_of a p depth first second
+  unfolding sum_of placed_of
+  small_told l h e (zero_of n) g f = absurd (h (ap (λ (q : Placed). q.rule) f))
+  small_told l h e (number n x m t) g f = absurd (h (ap (λ (q : Placed). q.rule) f))
+  small_told l h e too_large g f = absurd (l (ap (λ (q : Placed). q.rule) f))
+  small_told l h e too_small g f = e
 
   -- no number has the counted exponent 0
   pub zero_told : placed.rule ≡ 0 → placed.exponent ≡ 0 → {s : Sum} → s ≡ sum_of (zero_of negative) p depth first second → (a : Answer) → Signed negative a → placed ≡ placed_of a → s ≡ sum_of a p depth first second
@@ -32,8 +42,8 @@ module _ (negative : Bool) (p depth first second : ℕ) (placed : Placed) where
   zero_told h i e too_small g f = absurd (let z : 7 ≡ 0 = ap (λ (q : Placed). q.rule) (sym f) ∙ h in omega arith)
 
   pub number_told : placed.rule ≡ 0 → (placed.exponent ≡ 0 → ⊥) → {v z : ℤ} → v ≡ exponent_of placed.exponent → z ≡ placed.ternary → (a : Answer) → Signed negative a → placed ≡ placed_of a
-      → record { number = record { negative = negative; kind = Regular; precision = p; exponent = v }; ternary = z; depth = depth; first = first; second = second; refusal = record { rule = 0; place = 0 } } ≡ sum_of a p depth first second
-  unfolding sum_of placed_of accepted
+      → record { depth = depth; first = first; answer = Ok (record { number = record { negative = negative; kind = Regular; precision = p; exponent = v }; ternary = z }); second = second } ≡ sum_of a p depth first second
+  unfolding sum_of placed_of
   number_told h l u i (zero_of n) g f = absurd (l (ap (λ (q : Placed). q.exponent) f))
   number_told h l u i (number n x m t) g f = rw (u, i, f, g.0) refl
   number_told h l u i too_large g f = absurd (let z : 6 ≡ 0 = ap (λ (q : Placed). q.rule) (sym f) ∙ h in omega arith)

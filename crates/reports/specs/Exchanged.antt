@@ -2,4 +2,4 @@
 use Rattle.reports.specs.declared.report.Sum.{Sum}
 
 unfoldable pub exchanged_sum : Sum → Sum
-exchanged_sum s = record { number = s.number; ternary = s.ternary; depth = s.depth; first = s.second; second = s.first; refusal = s.refusal }
+exchanged_sum s = record { depth = s.depth; first = s.second; answer = s.answer; second = s.first }

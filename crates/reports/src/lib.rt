@@ -3,4 +3,4 @@
 
 mod report; // report.rt: what a sum reports
 
-pub use report::{Sum, answered, exchanged, refused, retold, used, zero, zero_sign};
+pub use report::{Rounded, Sum, answered, exchanged, refused, retold, used, zero, zero_sign};

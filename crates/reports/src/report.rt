@@ -11,39 +11,35 @@ ghost use Rattle.reports.specs.Signed.{Signed};
 ghost use Rattle.reports.specs.Ranged.{Ranged};
 ghost use Rattle.reports.specs.Counts.{used_of};
 
-use checks::{Kind, Number, Refusal};
+use checks::{Kind, Number, Place, Refusal, Rule};
 use place::Placed;
 use rounding::Mode;
 
-// The depth, the number, the limbs used of the first operand and of the second, the ternary value, and the refusal. No two of the three
-// counts stand side by side, so that two of them, written one by one, are not read as one.
-#[derive(Clone, Copy)]
-pub struct Sum {
-    pub depth: u64,
+// A number that was rounded, and the sign of it less the exact value.
+#[derive(Clone, Copy, Debug, PartialEq, Eq)]
+pub struct Rounded {
     pub number: Number,
-    pub first: u64,
     pub ternary: i8,
-    pub second: u64,
-    pub refusal: Refusal,
 }
 
-// A refused sum: +0 of precision 2.
+// The depth, the number or the refusal, and the limbs used of the first operand and of the second.
+#[derive(Clone, Copy, Debug, PartialEq, Eq)]
+pub struct Sum {
+    pub depth: u64,
+    pub first: u64,
+    pub answer: Result<Rounded, Refusal>,
+    pub second: u64,
+}
+
+// A refused sum.
 pub fn refused(refusal: Refusal, depth: u64, first: u64, second: u64) -> Sum
     ensures { result ≡ refused_sum refusal depth first second }
 {
-    let nothing = Number {
-        negative: false,
-        kind: Kind::Zero,
-        precision: 2,
-        exponent: 0,
-    };
     Sum {
-        number: nothing,
-        ternary: 0,
-        depth: depth,
-        first: first,
-        second: second,
-        refusal: refusal,
+        depth,
+        first,
+        answer: Err(refusal),
+        second,
     }
 }
 
@@ -59,19 +55,16 @@ pub fn zero(negative: bool, p: u64, depth: u64, first: u64, second: u64) -> Sum
     ensures { result ≡ sum_of (zero_of negative) p depth first second }
 {
     let number = Number {
-        negative: negative,
+        negative,
         kind: Kind::Zero,
         precision: p,
         exponent: 0,
     };
-    let none = Refusal { rule: 0, place: 0 };
     Sum {
-        number: number,
-        ternary: 0,
-        depth: depth,
-        first: first,
-        second: second,
-        refusal: none,
+        depth,
+        first,
+        answer: Ok(Rounded { number, ternary: 0 }),
+        second,
     }
 }
 
@@ -79,19 +72,17 @@ pub fn zero(negative: bool, p: u64, depth: u64, first: u64, second: u64) -> Sum
 pub fn retold(s: Sum) -> Sum
     ensures { result ≡ s }
 {
-    let number = checks::copied(s.number);
-    let cause = s.refusal;
-    let refusal = Refusal {
-        rule: cause.rule,
-        place: cause.place,
-    };
-    Sum {
-        number: number,
-        ternary: s.ternary,
-        depth: s.depth,
-        first: s.first,
-        second: s.second,
-        refusal: refusal,
+    match s.answer {
+        Ok(rounded) => Sum {
+            depth: s.depth,
+            first: s.first,
+            answer: Ok(Rounded {
+                number: checks::copied(rounded.number),
+                ternary: rounded.ternary,
+            }),
+            second: s.second,
+        },
+        Err(refusal) => refused(refusal, s.depth, s.first, s.second),
     }
 }
 
@@ -99,15 +90,11 @@ pub fn retold(s: Sum) -> Sum
 pub fn exchanged(s: Sum) -> Sum
     ensures { result ≡ exchanged_sum s }
 {
-    let number = s.number;
-    let refusal = s.refusal;
     Sum {
-        number: number,
-        ternary: s.ternary,
         depth: s.depth,
         first: s.second,
+        answer: s.answer,
         second: s.first,
-        refusal: refusal,
     }
 }
 
@@ -126,30 +113,45 @@ pub fn answered(placed: Placed, negative: bool, p: u64, depth: u64, first: u64, 
     requires { Ranged placed }
     ensures { (a : Answer) → Signed negative a → placed ≡ placed_of a → result ≡ sum_of a p depth first second }
 {
+    if placed.rule == 6 {
+        return refused(
+            Refusal {
+                rule: Rule::TooLarge,
+                place: Place::Target,
+            },
+            depth,
+            first,
+            second,
+        );
+    }
     if placed.rule != 0 {
-        let refusal = Refusal {
-            rule: placed.rule,
-            place: 3,
-        };
-        return refused(refusal, depth, first, second);
+        return refused(
+            Refusal {
+                rule: Rule::TooSmall,
+                place: Place::Target,
+            },
+            depth,
+            first,
+            second,
+        );
     }
     if placed.exponent == 0 {
         return zero(negative, p, depth, first, second);
     }
     let number = Number {
-        negative: negative,
+        negative,
         kind: Kind::Regular,
         precision: p,
         exponent: exponent_in(placed.exponent),
     };
-    let none = Refusal { rule: 0, place: 0 };
     Sum {
-        number: number,
-        ternary: placed.ternary,
-        depth: depth,
-        first: first,
-        second: second,
-        refusal: none,
+        depth,
+        first,
+        answer: Ok(Rounded {
+            number,
+            ternary: placed.ternary,
+        }),
+        second,
     }
 }
 

@@ -18,11 +18,14 @@ use Rattle.numbers.specs.Limits.{bias, limbs_for}
 use Rattle.checks.specs.declared.Refusal.{Refusal}
 use Rattle.checks.specs.declared.Kind.TheVariants.{Regular, Zero}
 use Rattle.checks.specs.Number.{exponent_of}
-use Rattle.checks.specs.Check.{accepted, first_refusal, length_holds}
-use Rattle.unpack.specs.declared.FromDouble.{FromDouble}
+use Rattle.checks.specs.Check.{accepted, answered, left_by, first_refusal, length_holds}
+use Rattle.std.specs.Prelude.{Result, Ok, Err}
+use Rattle.checks.specs.declared.Number.{Number}
+use Rattle.checks.specs.declared.Rule.TheVariants.{Limbs, NoNumber}
+use Rattle.checks.specs.declared.Place.TheVariants.{First, Target}
 use Rattle.unpack.specs.Double.{double_precision, double_sign, exponent_field, is_finite, double_digits, double_scale}
-use Rattle.unpack.specs.Read.{is_number, read_refusal, read_exponent, number_of_bits, limbs_of_bits, unread_by, read_of, read_limbs}
-use Rattle.unpack.specs.Steps.{read_as, bits_number, bits_read, bits_limbs}
+use Rattle.unpack.specs.Read.{is_number, read_refusal, read_exponent, number_of_bits, limbs_of_bits, read_of, read_limbs}
+use Rattle.unpack.specs.Steps.{read_as, bits_read, bits_limbs}
 
 -- ---- bits
 
@@ -38,14 +41,14 @@ pub finite_is : (b f : ℕ) → f ≡ exponent_field b → (f ≡ 2047 → ⊥) 
 unfolding is_finite exponent_field
 finite_is b f e h = lt-ltb (exponent_field b) 2047 (omega arith)
 
-module _ (b : ℕ) (r : FromDouble) (t : List ℕ) where
-  pub infinite_read : is_finite b ≡ false → r ≡ unread_by (record { rule = 14; place = 1 }) → (r ≡ bits_read b) × (t ≡ bits_limbs t b)
+module _ (b : ℕ) (t : List ℕ) where
+  pub infinite_read : is_finite b ≡ false → (Err (record { rule = NoNumber; place = First }) ≡ bits_read b) × (t ≡ bits_limbs t b)
   unfolding bits_read bits_limbs
-  infinite_read h e = rw h (e, refl)
+  infinite_read h = rw h (refl, refl)
 
-  pub finite_read : (u : List ℕ) → is_finite b ≡ true → r ≡ bits_number b → t ≡ limbs_of_bits b → (r ≡ bits_read b) × (t ≡ bits_limbs u b)
+  pub finite_read : (x : Number) (u : List ℕ) → is_finite b ≡ true → x ≡ number_of_bits b → t ≡ limbs_of_bits b → (Ok x ≡ bits_read b) × (t ≡ bits_limbs u b)
   unfolding bits_read bits_limbs
-  finite_read u h e f = rw h (e, f)
+  finite_read x u h e f = rw h (ap Ok e, f)
 
 pub scale_lt : (b : ℕ) → double_scale b < 2048
 unfolding double_scale
@@ -55,8 +58,8 @@ scale_lt b = go (eqb (exponent_field b) 0) (field_lt b)
     go true h = omega arith
     go false h = h
 
-pub zero_number : (b : ℕ) (r : FromDouble) → double_digits b ≡ 0 → r ≡ read_as (double_sign b) Zero (pos 0) → r ≡ bits_number b
-unfolding bits_number read_as number_of_bits double_precision
+pub zero_number : (b : ℕ) (r : Number) → double_digits b ≡ 0 → r ≡ read_as (double_sign b) Zero (pos 0) → r ≡ number_of_bits b
+unfolding read_as number_of_bits double_precision
 zero_number b r h e = rw (eq-eqb (double_digits b) 0 h) e
 
 pub zero_limb : (b : ℕ) (t : List ℕ) → length t ≡ 1 → double_digits b ≡ 0 → set t 0 0 ≡ limbs_of_bits b
@@ -72,8 +75,8 @@ module _ (b digits zeros : ℕ) (digits_is : digits ≡ double_digits b) (zeros_
       ∙ ap (λ (n : ℕ). n ∷ [])
       (shl_exact (size digits) zeros 64 (size-lt digits) (omega arith) ∙ ap (λ (n : ℕ). digits * 2 ^ n) (omega arith) ∙ ap (λ (n : ℕ). n * 2 ^ (64 - size n)) digits_is)
 
-  pub regular_number : (scale : ℕ) (e : ℤ) (r : FromDouble) → 0 < digits → scale ≡ double_scale b → e ≡ exponent_of (1099511626765 + scale - zeros) → r ≡ read_as (double_sign b) Regular e → r ≡ bits_number b
-  unfolding bits_number read_as number_of_bits read_exponent double_precision bias
+  pub regular_number : (scale : ℕ) (e : ℤ) (r : Number) → 0 < digits → scale ≡ double_scale b → e ≡ exponent_of (1099511626765 + scale - zeros) → r ≡ read_as (double_sign b) Regular e → r ≡ number_of_bits b
+  unfolding read_as number_of_bits read_exponent double_precision bias
   regular_number scale e r some scale_is e_is f =
       f ∙ ap (read_as (double_sign b) Regular) (e_is ∙ ap exponent_of (count (size digits) zeros_are))
       ∙ rw (ne_eqb (double_digits b) 0 (λ h. nonzero h), ← digits_is, ← scale_is) refl
@@ -101,11 +104,11 @@ unfolding is_number
 nan_number d h = rw h refl
 
 module _ (n : ℕ) (d : Float) where
-  pub long_refusal : (n ≡ 1 → ⊥) → read_refusal n d ≡ record { rule = 3; place = 3 }
+  pub long_refusal : (n ≡ 1 → ⊥) → read_refusal n d ≡ Err (record { rule = Limbs; place = Target })
   unfolding read_refusal first_refusal length_holds double_precision limbs_for
   long_refusal h = rw (ne_eqb n 1 h) refl
 
-  pub none_refusal : n ≡ 1 → is_number d ≡ false → read_refusal n d ≡ record { rule = 14; place = 1 }
+  pub none_refusal : n ≡ 1 → is_number d ≡ false → read_refusal n d ≡ Err (record { rule = NoNumber; place = First })
   unfolding read_refusal first_refusal length_holds double_precision limbs_for
   none_refusal h k = rw (eq-eqb n 1 h, k) refl
 
@@ -113,10 +116,10 @@ module _ (n : ℕ) (d : Float) where
   unfolding read_refusal first_refusal length_holds double_precision limbs_for
   no_refusal h k = rw (eq-eqb n 1 h, k) refl
 
-module _ (d : Float) (t : List ℕ) (r : FromDouble) where
-  pub refused_read : (q : Refusal) → read_refusal (length t) d ≡ q → (q.rule ≡ 0 → ⊥) → r ≡ unread_by q → (r ≡ read_of (length t) d) × (t ≡ read_limbs t d)
-  unfolding read_of read_limbs
-  refused_read q e h k = rw (e, ne_eqb q.rule 0 h) (k, refl)
+module _ (d : Float) (t : List ℕ) (r : Result Number Refusal) where
+  pub refused_read : (q : Refusal) → read_refusal (length t) d ≡ Err q → r ≡ Err q → (r ≡ read_of (length t) d) × (t ≡ read_limbs t d)
+  unfolding read_of read_limbs answered left_by
+  refused_read q e k = rw e (k, refl)
 
   number_is : (f : Bool) → is_nan d ≡ false → is_finite (to_bits binary64 d) ≡ f → is_number d ≡ f
   unfolding is_number
@@ -124,11 +127,11 @@ module _ (d : Float) (t : List ℕ) (r : FromDouble) where
   number_is false h e = rw (h, e) refl
 
   finite_double : (u : List ℕ) → length t ≡ 1 → is_number d ≡ true → is_finite (to_bits binary64 d) ≡ true → (r ≡ bits_read (to_bits binary64 d)) × (u ≡ bits_limbs t (to_bits binary64 d)) → (r ≡ read_of (length t) d) × (u ≡ read_limbs t d)
-  unfolding read_of read_limbs bits_read bits_limbs bits_number accepted
+  unfolding read_of read_limbs answered left_by bits_read bits_limbs accepted
   finite_double u c h e k = rw (no_refusal (length t) d c h) (rw e at k)
 
   infinite_double : (u : List ℕ) → length t ≡ 1 → is_number d ≡ false → is_finite (to_bits binary64 d) ≡ false → (r ≡ bits_read (to_bits binary64 d)) × (u ≡ bits_limbs t (to_bits binary64 d)) → (r ≡ read_of (length t) d) × (u ≡ read_limbs t d)
-  unfolding read_of read_limbs bits_read bits_limbs
+  unfolding read_of read_limbs answered left_by bits_read bits_limbs
   infinite_double u c h e k = rw (none_refusal (length t) d c h) (rw e at k)
 
   -- bits that are no NaN's

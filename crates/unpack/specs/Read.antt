@@ -1,15 +1,16 @@
 -- The number of a double. Definitions only.
 -- Document 01, "Doubles": "Double to number is exact at precision 53, subnormals normalised; its one-limb target is checked by 3, then 14."
-use Rattle.std.specs.Prelude.{ℕ, ◌+◌, ◌-◌, ◌*◌, ◌^◌, Bool, false, not, cond, ◌||◌, List, [], ◌∷◌, eqb, pos, length, Float}
+use Rattle.std.specs.Prelude.{ℕ, ◌+◌, ◌-◌, ◌*◌, ◌^◌, Bool, not, cond, ◌||◌, List, [], ◌∷◌, eqb, pos, length, Float, Result}
 use Rattle.std.specs.Float.{binary64}
 use Rattle.std.specs.Float.Ieee.{to_bits, is_nan, size}
 use Rattle.numbers.specs.Limits.{bias}
 use Rattle.checks.specs.declared.Number.{Number}
 use Rattle.checks.specs.declared.Refusal.{Refusal}
+use Rattle.checks.specs.declared.Rule.TheVariants.{Limbs, NoNumber}
+use Rattle.checks.specs.declared.Place.TheVariants.{First, Target}
 use Rattle.checks.specs.declared.Kind.TheVariants.{Regular, Zero}
 use Rattle.checks.specs.Number.{exponent_of}
-use Rattle.checks.specs.Check.{test, first_refusal, length_holds}
-use Rattle.unpack.specs.declared.FromDouble.{FromDouble}
+use Rattle.checks.specs.Check.{test, first_refusal, answered, left_by, length_holds}
 use Rattle.unpack.specs.Double.{double_precision, double_sign, is_finite, double_digits, double_scale}
 
 -- "double that is infinite or NaN"
@@ -17,8 +18,8 @@ unfoldable pub is_number : Float → Bool
 is_number d = not (is_nan d || not (is_finite (to_bits binary64 d)))
 
 -- 3 has the target's place, 14 the double's
-unfoldable pub read_refusal : ℕ → Float → Refusal
-read_refusal n d = first_refusal (test (length_holds double_precision n) 3 3 ∷ test (is_number d) 14 1 ∷ [])
+unfoldable pub read_refusal : ℕ → Float → Result (Unit {0}) Refusal
+read_refusal n d = first_refusal (test (length_holds double_precision n) Limbs Target ∷ test (is_number d) NoNumber First ∷ [])
 
 -- z digits of which the last has the weight 2^(scale − 1075) reach up to the exponent z + scale − 1075, counted
 unfoldable pub read_exponent : ℕ → ℕ
@@ -35,15 +36,9 @@ number_of_bits b =
 unfoldable pub limbs_of_bits : ℕ → List ℕ
 limbs_of_bits b = double_digits b * 2 ^ (64 - size (double_digits b)) ∷ []
 
--- "A refusal .. returns +0 of precision 2"
-unfoldable pub unread_by : Refusal → FromDouble
-unread_by r = record { number = record { negative = false; kind = Zero; precision = 2; exponent = pos 0 }; refusal = r }
-
-unfoldable pub read_of : ℕ → Float → FromDouble
-read_of n d =
-    let r = read_refusal n d in
-    cond (eqb r.rule 0) (record { number = number_of_bits (to_bits binary64 d); refusal = r }) (unread_by r)
+unfoldable pub read_of : ℕ → Float → Result Number Refusal
+read_of n d = answered (read_refusal n d) (number_of_bits (to_bits binary64 d))
 
 -- "8 and above change no lent buffer", nor does 3
 unfoldable pub read_limbs : List ℕ → Float → List ℕ
-read_limbs t d = cond (eqb (read_refusal (length t) d).rule 0) (limbs_of_bits (to_bits binary64 d)) t
+read_limbs t d = left_by (read_refusal (length t) d) (limbs_of_bits (to_bits binary64 d)) t

@@ -4,10 +4,10 @@
 ghost use Rattle.std.specs.Prelude.{◌≡◌, ◌+◌, ◌<◌, length};
 ghost use Rattle.std.specs.Float.Ieee.{size};
 ghost use Rattle.unpack.specs.Double.{exponent_field, double_sign, double_digits, double_scale};
-ghost use Rattle.unpack.specs.Read.{limbs_of_bits, unread_by, read_of, read_limbs};
-ghost use Rattle.unpack.specs.Steps.{read_as, bits_number, bits_read, bits_limbs};
+ghost use Rattle.unpack.specs.Read.{number_of_bits, limbs_of_bits, read_of, read_limbs};
+ghost use Rattle.unpack.specs.Steps.{read_as, bits_read, bits_limbs};
 
-use checks::{Kind, Number, Refusal};
+use checks::{Kind, Number, Place, Refusal, Rule};
 
 // The exponent field of an infinity or a NaN.
 const ONES: u64 = 2047;
@@ -15,39 +15,14 @@ const ONES: u64 = 2047;
 // 2^52: the first digit of a normal double.
 const FIRST_DIGIT: u64 = 4503599627370496;
 
-// The number, and the refusal; a refused number is +0 of precision 2.
-#[derive(Clone, Copy)]
-pub struct FromDouble {
-    pub number: Number,
-    pub refusal: Refusal,
-}
-
-// No number: +0 of precision 2.
-pub fn unread(rule: u8, place: u8) -> FromDouble
-    ensures { result ≡ unread_by (record { rule = rule; place = place }) }
-{
-    FromDouble {
-        number: Number {
-            negative: false,
-            kind: Kind::Zero,
-            precision: 2,
-            exponent: 0,
-        },
-        refusal: Refusal { rule, place },
-    }
-}
-
-fn read(negative: bool, kind: Kind, exponent: i32) -> FromDouble
+fn read(negative: bool, kind: Kind, exponent: i32) -> Number
     ensures { result ≡ read_as negative kind exponent }
 {
-    FromDouble {
-        number: Number {
-            negative,
-            kind,
-            precision: 53,
-            exponent,
-        },
-        refusal: Refusal { rule: 0, place: 0 },
+    Number {
+        negative,
+        kind,
+        precision: 53,
+        exponent,
     }
 }
 
@@ -88,9 +63,9 @@ fn zeros_above(digits: u64) -> u64
 }
 
 // A finite double that is not 0: its digits are moved up until the first stands at the top of the limb.
-fn regular(bits: u64, negative: bool, digits: u64, target: &mut [u64]) -> FromDouble
+fn regular(bits: u64, negative: bool, digits: u64, target: &mut [u64]) -> Number
     requires { (length target.old ≡ 1) × (0 < digits) × (digits ≡ double_digits bits) × (negative ≡ double_sign bits) }
-    ensures value { result ≡ bits_number bits }
+    ensures value { result ≡ number_of_bits bits }
     ensures target_after { target.new ≡ limbs_of_bits bits }
 {
     let scale = scale_of(bits);
@@ -101,33 +76,42 @@ fn regular(bits: u64, negative: bool, digits: u64, target: &mut [u64]) -> FromDo
 }
 
 // The number of a double that is no NaN.
-pub fn from_bits(bits: u64, target: &mut [u64]) -> FromDouble
+pub fn from_bits(bits: u64, target: &mut [u64]) -> Result<Number, Refusal>
     requires { length target.old ≡ 1 }
     ensures value { result ≡ bits_read bits }
     ensures target_after { target.new ≡ bits_limbs target.old bits }
 {
     if field_of(bits) == ONES {
-        return unread(14, 1);
+        return Err(Refusal {
+            rule: Rule::NoNumber,
+            place: Place::First,
+        });
     }
     let negative = 9223372036854775808 <= bits;
     let digits = digits_of(bits);
     if digits == 0 {
         target[0] = 0;
-        return read(negative, Kind::Zero, 0);
+        return Ok(read(negative, Kind::Zero, 0));
     }
-    regular(bits, negative, digits, target)
+    Ok(regular(bits, negative, digits, target))
 }
 
 // A double to a number of precision 53, exact; the target is one limb.
-pub fn from_double(d: f64, target: &mut [u64]) -> FromDouble
+pub fn from_double(d: f64, target: &mut [u64]) -> Result<Number, Refusal>
     ensures value { result ≡ read_of (length target.old) d }
     ensures target_after { target.new ≡ read_limbs target.old d }
 {
     if target.len() != 1 {
-        return unread(3, 3);
+        return Err(Refusal {
+            rule: Rule::Limbs,
+            place: Place::Target,
+        });
     }
     if d != d {
-        return unread(14, 1);
+        return Err(Refusal {
+            rule: Rule::NoNumber,
+            place: Place::First,
+        });
     }
     from_bits(f64::to_bits(d), target)
 }

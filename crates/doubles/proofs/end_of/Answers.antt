@@ -13,7 +13,3 @@ returns-in-Below c = rw c.in-Below.is
 pub returns-in-Above : goal.returns-in-Above
 unfolding end_of
 returns-in-Above c = rw c.in-Above.is
-
-pub returns-in-Refused : goal.returns-in-Refused
-unfolding end_of
-returns-in-Refused c = rw c.in-Refused.is c.zero_of.ensures

@@ -1,12 +1,17 @@
 -- `doubles::pair_of`: each return is a case of the definition. Assumes nothing.
+use Rattle.std.proofs.lemmas.Result.{err_from_is_err_and}
 use Rattle.doubles.proofs.Cases.{lower_refused, upper_refused, both_ends}
 use Rattle.doubles.proofs.pair_of.Goals as goal
 
-pub returns-then-first-ne0 : goal.returns-then-first-ne0
-returns-then-first-ne0 c = lower_refused _ _ _ _ c.refusal_of-first.ensures c.if-first-ne0.true c.unenclosed.ensures
+pub returns-in_err-down : goal.returns-in_err-down
+returns-in_err-down c =
+    let p = err_from_is_err_and c.from_residual.result c.from_residual.ensures.1 in
+    rw (p.1, p.2) (lower_refused _ _ _ c.in_err-down.was)
 
-pub returns-then-second-ne0 : goal.returns-then-second-ne0
-returns-then-second-ne0 c = upper_refused _ _ _ _ _ c.refusal_of-first.ensures c.if-first-ne0.false c.refusal_of-second.ensures c.if-second-ne0.true c.unenclosed-then-second-ne0.ensures
+pub returns-in_err-up : goal.returns-in_err-up
+returns-in_err-up c =
+    let p = err_from_is_err_and c.from_residual-in_err-up.result c.from_residual-in_err-up.ensures.1 in
+    rw (p.1, p.2) (upper_refused _ _ _ _ c.in_ok-down.was c.in_err-up.was)
 
 pub returns : goal.returns
-returns c = both_ends _ _ _ _ _ _ c.refusal_of-first.ensures c.if-first-ne0.false c.refusal_of-second.ensures c.if-second-ne0.false c.end_of-lower.ensures c.end_of-upper.ensures
+returns c = both_ends _ _ _ _ _ _ c.in_ok-down.was c.in_ok-up.was c.end_of-lower.ensures c.end_of-upper.ensures

@@ -1,6 +1,6 @@
 -- `order::order_padded`: the limbs passed are equal, the first difference decides, and past both ends nothing is left. Assumes nothing.
 use mathlib.Core.Path.{◌≡◌, sym, ap}
-use Prim.Native.Nat.{◌+◌, ◌-◌, ◌<◌}
+use Prim.Native.Nat.{◌+◌, ◌<◌}
 use native.Mathlib.Omega.{arith}
 use lib.ListN.{length}
 use Rattle.order.specs.Order.{case_of}
@@ -15,7 +15,7 @@ loop-i-init c = (search rules, head_none _ _)
 pub returns-then-a-b : goal.returns-then-a-b
 unfolding case_of
 returns-then-a-b c =
-    let within : c.loop-i.i < length c.args.xl.now + length c.args.yl.now = omega (arith, c.longer-n.ensures.2) in
+    let within : c.loop-i.i < length c.args.xl.now + length c.args.yl.now = omega (arith, c.max-i-end.ensures) in
     let l = c.loop-i in
     let d : from_top c.args.xl.now l.i < from_top c.args.yl.now l.i = omega (arith, c.from_top-a.ensures, c.from_top-b.ensures) in
     ap case_of (sym (aligned_lt c.args.xl.now c.args.yl.now l.i within (λ i. (c.type_inv.xl i).fits) l.invariant.1 d))
@@ -23,7 +23,7 @@ returns-then-a-b c =
 pub returns-then-b-a : goal.returns-then-b-a
 unfolding case_of
 returns-then-b-a c =
-    let within : c.loop-i.i < length c.args.xl.now + length c.args.yl.now = omega (arith, c.longer-n.ensures.2) in
+    let within : c.loop-i.i < length c.args.xl.now + length c.args.yl.now = omega (arith, c.max-i-end.ensures) in
     let l = c.loop-i in
     let d : from_top c.args.yl.now l.i < from_top c.args.xl.now l.i = omega (arith, c.from_top-a.ensures, c.from_top-b.ensures) in
     ap case_of (sym (aligned_gt c.args.xl.now c.args.yl.now l.i within (λ i. (c.type_inv.yl i).fits) l.invariant.1 d))
@@ -38,5 +38,5 @@ pub returns : goal.returns
 unfolding case_of
 returns c =
     let l = c.loop-i in
-    let m = c.longer-n.ensures in
+    let m = c.max-i-end.ensures in
     ap case_of (sym (aligned_eq c.args.xl.now c.args.yl.now l.i (omega arith) (omega arith) (omega arith) l.invariant.1))

@@ -5,7 +5,7 @@ use Rattle.order.proofs.Head.{head}
 use Rattle.order.proofs.order_padded.Given as goal
 
 abbrev pub invariant-loop-i : goal.invariant-loop-i
-invariant-loop-i l = (l.i ≤ l.n) × (head (2 ^ 64) l.i l.xl ≡ head (2 ^ 64) l.i l.yl)
+invariant-loop-i l = (l.i ≤ l.i-end) × (head (2 ^ 64) l.i l.xl ≡ head (2 ^ 64) l.i l.yl)
 
 abbrev pub decreases-loop-i : goal.decreases-loop-i
-decreases-loop-i l = l.n - l.i
+decreases-loop-i l = l.i-end - l.i

@@ -2,4 +2,4 @@
 use Rattle.order.proofs.turned_if.Goals as goal
 
 pub returns-then-turn : goal.returns-then-turn
-returns-then-turn c = rw c.if-turn.true c.turned.ensures
+returns-then-turn c = rw c.if-turn.true c.reverse.ensures

@@ -7,7 +7,7 @@ use Rattle.unpack.proofs.from_bits.Goals as goal
 
 pub returns-then-field_of-eq-ONES : goal.returns-then-field_of-eq-ONES
 returns-then-field_of-eq-ONES c =
-    let told = infinite_read _ _ _ (infinite_is _ _ c.field_of.ensures c.if-field_of-eq-ONES.true) c.unread.ensures in
+    let told = infinite_read _ c.args.target.now (infinite_is _ _ c.field_of.ensures c.if-field_of-eq-ONES.true) in
     record {
       value = told.0;
       target_after = told.1;

@@ -1,12 +1,12 @@
 -- `unpack::from_double`: the tests in the order of the definition; a NaN, and nothing else, differs from itself. Assumes nothing.
-use native.Mathlib.Omega.{arith}
+use Rattle.std.proofs.Common.{refl}
 use Rattle.unpack.proofs.Bits.{not_nan}
 use Rattle.unpack.proofs.Reading.{nan_is, no_nan_is, nan_number, long_refusal, none_refusal, refused_read, bits_double}
 use Rattle.unpack.proofs.from_double.Goals as goal
 
 pub returns-then-target-ne1 : goal.returns-then-target-ne1
 returns-then-target-ne1 c =
-    let told = refused_read _ _ _ _ (long_refusal _ _ c.if-target-ne1.true) (λ e. omega arith) c.unread.ensures in
+    let told = refused_read _ _ _ _ (long_refusal _ _ c.if-target-ne1.true) refl in
     record {
       value = told.0;
       target_after = told.1;
@@ -14,7 +14,7 @@ returns-then-target-ne1 c =
 
 pub returns-then-d : goal.returns-then-d
 returns-then-d c =
-    let told = refused_read _ _ _ _ (none_refusal _ _ c.if-target-ne1.false (nan_number _ (nan_is _ c.if-d.true))) (λ e. omega arith) c.unread-then-d.ensures in
+    let told = refused_read _ _ _ _ (none_refusal _ _ c.if-target-ne1.false (nan_number _ (nan_is _ c.if-d.true))) refl in
     record {
       value = told.0;
       target_after = told.1;

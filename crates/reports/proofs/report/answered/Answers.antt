@@ -3,11 +3,14 @@ use mathlib.Core.Path.{◌∙◌}
 use native.Mathlib.Omega.{arith}
 use mir.Facts.{to_z-of_z}
 use mir.Syntax.{w8, w32}
-use Rattle.reports.proofs.Told.{refused_told, zero_told, number_told}
+use Rattle.reports.proofs.Told.{large_told, small_told, zero_told, number_told}
 use Rattle.reports.proofs.report.answered.Goals as goal
 
+pub returns-then-placed-eq6 : goal.returns-then-placed-eq6
+returns-then-placed-eq6 c = large_told _ _ _ _ _ _ c.if-placed-eq6.true c.refused.ensures
+
 pub returns-then-placed-ne0 : goal.returns-then-placed-ne0
-returns-then-placed-ne0 c = refused_told _ _ _ _ _ _ c.if-placed-ne0.true c.refused.ensures
+returns-then-placed-ne0 c = small_told _ _ _ _ _ _ c.if-placed-eq6.false c.if-placed-ne0.true c.refused-then-placed-ne0.ensures
 
 pub returns-then-placed-eq0 : goal.returns-then-placed-eq0
 returns-then-placed-eq0 c = zero_told _ _ _ _ _ _ c.if-placed-ne0.false c.if-placed-eq0.true c.zero.ensures

@@ -1,7 +1,7 @@
--- `doubles::refused`: as the definition says. Assumes nothing.
+-- `doubles::outside`: as the definition says. Assumes nothing.
 use mathlib.Core.Path.{refl}
 use Rattle.doubles.specs.Convert.{outside}
-use Rattle.doubles.proofs.refused.Goals as goal
+use Rattle.doubles.proofs.outside.Goals as goal
 
 pub returns : goal.returns
 unfolding outside
