@@ -2,16 +2,15 @@
 #![tactic(auto)]
 
 ghost use Rattle.std.specs.Prelude.{◌≡◌};
+ghost use Rattle.checks.specs.Number.{nothing};
 ghost use Rattle.order.specs.Order.{number_of};
-ghost use Rattle.plain.specs.Plain.{kind_from, number_from, sum_from};
-ghost use Rattle.plain.specs.Answers.{order_told, double_told, enclosed_from, read_from, head_from, written_from};
+ghost use Rattle.plain.specs.Plain.{kind_from, number_from};
+ghost use Rattle.plain.specs.Answers.{number_told, sum_told, order_told, double_told, enclosed_told, read_told, written_told};
 
-use checks::{Kind, Number};
-use doubles::{Converted, Enclosed};
-use lines::{Head, Written};
-use order::{Compared, Order};
+use checks::{Kind, Number, Refusal};
+use doubles::{Converted, Enclosing};
 use reports::Sum;
-use unpack::FromDouble;
+use std::cmp::Ordering;
 
 // A number without its limbs, which travel beside it as a lent slice, lowest first.
 #[repr(C)]
@@ -91,160 +90,212 @@ pub struct PlainWritten {
     pub place: u8,
 }
 
+#[tactic(auto, unfolding(crate::specs::Plain::kind_from))]
 fn kind_from(zero: bool) -> Kind
     ensures { result ≡ kind_from zero }
 {
-    if zero {
-        return Kind::Zero;
-    }
-    Kind::Regular
+    if zero { Kind::Zero } else { Kind::Regular }
 }
 
 // The number that plain fields say.
-pub fn number_from(x: PlainNumber) -> Number
-    ensures { result ≡ number_from x }
-{
-    let kind = kind_from(x.zero);
-    Number {
-        negative: x.negative,
-        kind: kind,
-        precision: x.precision,
-        exponent: x.exponent,
+#[tactic(auto, unfolding(crate::specs::Plain::number_from))]
+impl From<PlainNumber> for Number {
+    ghost from_gives = { λ x number. number ≡ number_from x };
+
+    fn from(x: PlainNumber) -> Number {
+        Number {
+            negative: x.negative,
+            kind: kind_from(x.zero),
+            precision: x.precision,
+            exponent: x.exponent,
+        }
     }
 }
 
 // The plain fields of a number.
-pub fn plain_number(x: Number) -> PlainNumber
-    ensures { number_from result ≡ x }
-{
-    PlainNumber {
-        precision: x.precision,
-        exponent: x.exponent,
-        negative: x.negative,
-        zero: checks::is_zero(x),
+#[tactic(auto, unfolding(crate::specs::Answers::number_told))]
+impl From<Number> for PlainNumber {
+    ghost from_gives = { λ x plain. plain ≡ number_told x };
+
+    fn from(x: Number) -> PlainNumber {
+        PlainNumber {
+            precision: x.precision,
+            exponent: x.exponent,
+            negative: x.negative,
+            zero: checks::is_zero(x),
+        }
     }
 }
 
-// The plain fields of a sum.
-pub fn plain_sum(s: Sum) -> PlainSum
-    ensures { sum_from result ≡ s }
-{
-    let number = plain_number(s.number);
-    let cause = s.refusal;
-    PlainSum {
-        number: number,
-        depth: s.depth,
-        first: s.first,
-        second: s.second,
-        ternary: s.ternary,
-        rule: cause.rule,
-        place: cause.place,
+// The plain fields of a sum; a refusal has +0 of precision 2 and the ternary value 0.
+#[tactic(auto, unfolding(crate::specs::Answers::sum_told, crate::specs::Answers::answer_told))]
+impl From<Sum> for PlainSum {
+    ghost from_gives = { λ s plain. plain ≡ sum_told s };
+
+    fn from(s: Sum) -> PlainSum {
+        let first = s.first;
+        let second = s.second;
+        match s.answer {
+            Ok(rounded) => PlainSum {
+                number: PlainNumber::from(rounded.number),
+                depth: s.depth,
+                first,
+                second,
+                ternary: rounded.ternary,
+                rule: 0,
+                place: 0,
+            },
+            Err(cause) => PlainSum {
+                number: nothing(),
+                depth: s.depth,
+                first,
+                second,
+                ternary: 0,
+                rule: cause.rule.number(),
+                place: cause.place.number(),
+            },
+        }
     }
 }
 
-pub fn order_number(order: Order) -> i8
+#[tactic(auto, unfolding(order::specs::Order::number_of))]
+pub fn order_number(order: Ordering) -> i8
     ensures { result ≡ number_of order }
 {
     match order {
-        Order::Less => -1,
-        Order::Equal => 0,
-        Order::Greater => 1,
+        Ordering::Less => -1,
+        Ordering::Equal => 0,
+        Ordering::Greater => 1,
     }
 }
 
-// The plain fields of a comparison.
-pub fn plain_order(c: Compared) -> PlainOrder
-    ensures { result ≡ order_told c }
-{
-    let order = c.order;
-    let refusal = c.refusal;
-    PlainOrder {
-        order: order_number(order),
-        rule: refusal.rule,
-        place: refusal.place,
+// The plain fields of a comparison; a refusal has 0.
+#[tactic(auto, unfolding(crate::specs::Answers::order_told))]
+impl From<Result<Ordering, Refusal>> for PlainOrder {
+    ghost from_gives = { λ compared plain. plain ≡ order_told compared };
+
+    fn from(compared: Result<Ordering, Refusal>) -> PlainOrder {
+        match compared {
+            Ok(order) => PlainOrder {
+                order: order_number(order),
+                rule: 0,
+                place: 0,
+            },
+            Err(refusal) => PlainOrder {
+                order: 0,
+                rule: refusal.rule.number(),
+                place: refusal.place.number(),
+            },
+        }
     }
 }
 
-// The plain fields of a conversion; a refusal has +0.
-pub fn plain_double(c: Converted) -> PlainDouble
-    ensures { result ≡ double_told c }
+// What is told of a number that is refused: +0 of precision 2.
+#[tactic(auto, unfolding(crate::specs::Answers::number_told, checks::specs::Number::nothing, checks::specs::Number::is_zero_kind))]
+fn nothing() -> PlainNumber
+    ensures { result ≡ number_told nothing }
 {
-    match c {
-        Converted::Exact(d) => PlainDouble {
-            value: d,
-            ternary: 0,
-            rule: 0,
-            place: 0,
-        },
-        Converted::Below(d) => PlainDouble {
-            value: d,
-            ternary: -1,
-            rule: 0,
-            place: 0,
-        },
-        Converted::Above(d) => PlainDouble {
-            value: d,
-            ternary: 1,
-            rule: 0,
-            place: 0,
-        },
-        Converted::Refused(r) => PlainDouble {
-            value: 0.0,
-            ternary: 0,
-            rule: r.rule,
-            place: r.place,
-        },
+    PlainNumber {
+        precision: 2,
+        exponent: 0,
+        negative: false,
+        zero: true,
     }
 }
 
-// The plain fields of an enclosing pair.
-pub fn plain_pair(e: Enclosed) -> PlainPair
-    ensures { enclosed_from result ≡ e }
+// A double beside a ternary value, with no refusal.
+fn plain_value(value: f64, ternary: i8) -> PlainDouble
+    ensures { result ≡ record { value = value; ternary = ternary; rule = 0; place = 0 } }
 {
-    let pair = e.pair;
-    let refusal = e.refusal;
-    PlainPair {
-        lower: pair.lower,
-        upper: pair.upper,
-        rule: refusal.rule,
-        place: refusal.place,
+    PlainDouble {
+        value,
+        ternary,
+        rule: 0,
+        place: 0,
     }
 }
 
-// The plain fields of what is read.
-pub fn plain_read(f: FromDouble) -> PlainRead
-    ensures { read_from result ≡ f }
-{
-    let number = plain_number(f.number);
-    let refusal = f.refusal;
-    PlainRead {
-        number: number,
-        rule: refusal.rule,
-        place: refusal.place,
+// The plain fields of a conversion; a refusal has +0, and 0 beside its number.
+#[tactic(auto, unfolding(crate::specs::Answers::double_told, crate::specs::Answers::value_told, unpack::specs::Double::double, unpack::specs::Double::sign_bit))]
+impl From<Result<Converted, Refusal>> for PlainDouble {
+    ghost from_gives = { λ converted plain. plain ≡ double_told converted };
+
+    fn from(converted: Result<Converted, Refusal>) -> PlainDouble {
+        match converted {
+            Ok(Converted::Exact(d)) => plain_value(d, 0),
+            Ok(Converted::Below(d)) => plain_value(d, -1),
+            Ok(Converted::Above(d)) => plain_value(d, 1),
+            Err(refusal) => PlainDouble {
+                value: 0.0,
+                ternary: 0,
+                rule: refusal.rule.number(),
+                place: refusal.place.number(),
+            },
+        }
     }
 }
 
-// The plain fields of what was written.
-pub fn plain_written(w: Written) -> PlainWritten
-    ensures { written_from result ≡ w }
-{
-    let refusal = w.refusal;
-    PlainWritten {
-        count: w.count,
-        rule: refusal.rule,
-        place: refusal.place,
+// The plain fields of an enclosing pair; under a refusal both ends are +0.
+#[tactic(auto, unfolding(crate::specs::Answers::enclosed_told, unpack::specs::Double::double, unpack::specs::Double::sign_bit))]
+impl From<Result<Enclosing, Refusal>> for PlainPair {
+    ghost from_gives = { λ enclosed plain. plain ≡ enclosed_told enclosed };
+
+    fn from(enclosed: Result<Enclosing, Refusal>) -> PlainPair {
+        match enclosed {
+            Ok(pair) => PlainPair {
+                lower: pair.lower,
+                upper: pair.upper,
+                rule: 0,
+                place: 0,
+            },
+            Err(refusal) => PlainPair {
+                lower: 0.0,
+                upper: 0.0,
+                rule: refusal.rule.number(),
+                place: refusal.place.number(),
+            },
+        }
     }
 }
 
-// The plain fields of a number that a line holds.
-pub fn plain_head(h: Head) -> PlainRead
-    ensures { head_from result ≡ h }
-{
-    let number = plain_number(h.number);
-    let refusal = h.refusal;
-    PlainRead {
-        number: number,
-        rule: refusal.rule,
-        place: refusal.place,
+// The plain fields of a number that is read; a refusal has +0 of precision 2.
+#[tactic(auto, unfolding(crate::specs::Answers::read_told))]
+impl From<Result<Number, Refusal>> for PlainRead {
+    ghost from_gives = { λ read plain. plain ≡ read_told read };
+
+    fn from(read: Result<Number, Refusal>) -> PlainRead {
+        match read {
+            Ok(number) => PlainRead {
+                number: PlainNumber::from(number),
+                rule: 0,
+                place: 0,
+            },
+            Err(refusal) => PlainRead {
+                number: nothing(),
+                rule: refusal.rule.number(),
+                place: refusal.place.number(),
+            },
+        }
+    }
+}
+
+// The plain fields of what was written; a refusal has 0.
+#[tactic(auto, unfolding(crate::specs::Answers::written_told))]
+impl From<Result<usize, Refusal>> for PlainWritten {
+    ghost from_gives = { λ written plain. plain ≡ written_told written };
+
+    fn from(written: Result<usize, Refusal>) -> PlainWritten {
+        match written {
+            Ok(count) => PlainWritten {
+                count,
+                rule: 0,
+                place: 0,
+            },
+            Err(refusal) => PlainWritten {
+                count: 0,
+                rule: refusal.rule.number(),
+                place: refusal.place.number(),
+            },
+        }
     }
 }

@@ -1,9 +1,13 @@
 // Add, subtract, re-round.
+ghost use Rattle.std.specs.Prelude.{◌≡◌};
 ghost use Rattle.depth.specs.Depth.{plus, minus};
 ghost use Rattle.reports.specs.Summed.{Summed, Rerounded};
-ghost use Rattle.plain.specs.Plain.{number_from, sum_from};
+ghost use Rattle.reports.specs.declared.report.Sum.{Sum};
+ghost use Rattle.plain.specs.Plain.{number_from};
+ghost use Rattle.plain.specs.Answers.{sum_told};
 
-use plain::{PlainNumber, PlainSum, number_from, plain_sum};
+use checks::Number;
+use plain::{PlainNumber, PlainSum};
 
 // x + y, rounded to p digits.
 pub fn sheafbuckle_add<'a>(
@@ -15,9 +19,9 @@ pub fn sheafbuckle_add<'a>(
     p: u64,
     target: &mut [u64],
 ) -> PlainSum
-    ensures { Summed plus mode (number_from x) xl.now (number_from y) yl.now p target.old target.new (sum_from result) }
+    ensures { (s : Sum) × ((result ≡ sum_told s) × Summed plus mode (number_from x) xl.now (number_from y) yl.now p target.old target.new s) }
 {
-    plain_sum(sums::add(mode, number_from(x), xl, number_from(y), yl, p, target))
+    PlainSum::from(sums::add(mode, Number::from(x), xl, Number::from(y), yl, p, target))
 }
 
 // x - y, rounded to p digits.
@@ -30,9 +34,9 @@ pub fn sheafbuckle_subtract<'a>(
     p: u64,
     target: &mut [u64],
 ) -> PlainSum
-    ensures { Summed minus mode (number_from x) xl.now (number_from y) yl.now p target.old target.new (sum_from result) }
+    ensures { (s : Sum) × ((result ≡ sum_told s) × Summed minus mode (number_from x) xl.now (number_from y) yl.now p target.old target.new s) }
 {
-    plain_sum(sums::subtract(mode, number_from(x), xl, number_from(y), yl, p, target))
+    PlainSum::from(sums::subtract(mode, Number::from(x), xl, Number::from(y), yl, p, target))
 }
 
 // x alone, rounded to p digits.
@@ -43,7 +47,7 @@ pub fn sheafbuckle_reround(
     p: u64,
     target: &mut [u64],
 ) -> PlainSum
-    ensures { Rerounded mode (number_from x) xl.now p target.old target.new (sum_from result) }
+    ensures { (s : Sum) × ((result ≡ sum_told s) × Rerounded mode (number_from x) xl.now p target.old target.new s) }
 {
-    plain_sum(sums::reround(mode, number_from(x), xl, p, target))
+    PlainSum::from(sums::reround(mode, Number::from(x), xl, p, target))
 }

@@ -1,30 +1,30 @@
 // Compare, turn the sign.
 ghost use Rattle.std.specs.Prelude.{◌≡◌, true, false};
 ghost use Rattle.checks.specs.Number.{operand_of, turned_number};
-ghost use Rattle.checks.specs.Check.{accepted};
 ghost use Rattle.checks.specs.Passes.{Passes};
 ghost use Rattle.order.specs.Order.{compared_of};
 ghost use Rattle.plain.specs.Plain.{number_from};
 ghost use Rattle.plain.specs.Answers.{order_told};
 
-use order::Order;
-use plain::{PlainNumber, PlainOrder, number_from, order_number, plain_number, plain_order};
+use checks::Number;
+use plain::{PlainNumber, PlainOrder, order_number};
+use std::cmp::Ordering;
 
 // Whether two numbers are regular and pass tests 2 to 5.
 fn are_regular(x: PlainNumber, xl: &[u64], y: PlainNumber, yl: &[u64]) -> bool
     ensures { result ≡ true → Passes (operand_of (number_from x) xl.now) × (x.zero ≡ false) × Passes (operand_of (number_from y) yl.now) × (y.zero ≡ false) }
 {
-    if !admission::regular_passes(number_from(x), xl) {
+    if !admission::regular_passes(Number::from(x), xl) {
         return false;
     }
-    admission::regular_passes(number_from(y), yl)
+    admission::regular_passes(Number::from(y), yl)
 }
 
 // The order of any two numbers, or the refusal.
 fn compare_any(x: PlainNumber, xl: &[u64], y: PlainNumber, yl: &[u64]) -> PlainOrder
     ensures { result ≡ order_told (compared_of (number_from x) xl.now (number_from y) yl.now) }
 {
-    plain_order(order::compare(number_from(x), xl, number_from(y), yl))
+    PlainOrder::from(order::compare(Number::from(x), xl, Number::from(y), yl))
 }
 
 // The same, in a place of its own: what a slower way left in memory is read field by field, and what a quick one tells need not stand there.
@@ -39,8 +39,8 @@ fn retold(o: PlainOrder) -> PlainOrder
 }
 
 // An order without a refusal.
-fn told(order: Order) -> PlainOrder
-    ensures { result ≡ order_told (record { order = order; refusal = accepted }) }
+fn told(order: Ordering) -> PlainOrder
+    ensures { result ≡ order_told (Ok order) }
 {
     PlainOrder {
         order: order_number(order),
@@ -55,13 +55,13 @@ pub fn sheafbuckle_compare(x: PlainNumber, xl: &[u64], y: PlainNumber, yl: &[u64
 {
     if are_regular(x, xl, y, yl) {
         if x.negative != y.negative {
-            return told(order::order_apart(number_from(x), number_from(y)));
+            return told(order::order_apart(Number::from(x), Number::from(y)));
         }
         if x.exponent != y.exponent {
-            return told(order::order_exponents(number_from(x), number_from(y)));
+            return told(order::order_exponents(Number::from(x), Number::from(y)));
         }
         if xl.len() == yl.len() {
-            return told(order::order_level(number_from(x), xl, number_from(y), yl));
+            return told(order::order_level(Number::from(x), xl, Number::from(y), yl));
         }
         return retold(compare_any(x, &xl[..], y, &yl[..]));
     }
@@ -72,5 +72,5 @@ pub fn sheafbuckle_compare(x: PlainNumber, xl: &[u64], y: PlainNumber, yl: &[u64
 pub fn sheafbuckle_turn_sign(x: PlainNumber) -> PlainNumber
     ensures { number_from result ≡ turned_number (number_from x) }
 {
-    plain_number(checks::turn_sign(number_from(x)))
+    PlainNumber::from(checks::turn_sign(Number::from(x)))
 }

@@ -12,8 +12,9 @@ ghost use Rattle.unpack.specs.Read.{read_of as double_read_of, read_limbs};
 ghost use Rattle.parts.specs.Trimmed.{trimmed};
 ghost use Rattle.lines.specs.Reading.{head_of, read_of, target_after};
 ghost use Rattle.lines.specs.Writing.{written_of, room_after};
-ghost use Rattle.plain.specs.Plain.{number_from, sum_from};
-ghost use Rattle.plain.specs.Answers.{double_told, enclosed_from, read_from, order_told, head_from, written_from};
+ghost use Rattle.reports.specs.declared.report.Sum.{Sum};
+ghost use Rattle.plain.specs.Plain.{number_from};
+ghost use Rattle.plain.specs.Answers.{sum_told, double_told, enclosed_told, read_told, order_told, written_told};
 
 use plain::{
     PlainDouble, PlainNumber, PlainOrder, PlainPair, PlainRead, PlainRun, PlainSum, PlainWritten,
@@ -30,7 +31,7 @@ pub extern "C" fn sheafbuckle_add<'a>(
     p: u64,
     target: &mut [u64],
 ) -> PlainSum
-    ensures { Summed plus mode (number_from x) xl.now (number_from y) yl.now p target.old target.new (sum_from result) }
+    ensures { (s : Sum) × ((result ≡ sum_told s) × Summed plus mode (number_from x) xl.now (number_from y) yl.now p target.old target.new s) }
 {
     sheafbuckle::sheafbuckle_add(mode, x, xl, y, yl, p, target)
 }
@@ -46,7 +47,7 @@ pub extern "C" fn sheafbuckle_subtract<'a>(
     p: u64,
     target: &mut [u64],
 ) -> PlainSum
-    ensures { Summed minus mode (number_from x) xl.now (number_from y) yl.now p target.old target.new (sum_from result) }
+    ensures { (s : Sum) × ((result ≡ sum_told s) × Summed minus mode (number_from x) xl.now (number_from y) yl.now p target.old target.new s) }
 {
     sheafbuckle::sheafbuckle_subtract(mode, x, xl, y, yl, p, target)
 }
@@ -60,7 +61,7 @@ pub extern "C" fn sheafbuckle_reround(
     p: u64,
     target: &mut [u64],
 ) -> PlainSum
-    ensures { Rerounded mode (number_from x) xl.now p target.old target.new (sum_from result) }
+    ensures { (s : Sum) × ((result ≡ sum_told s) × Rerounded mode (number_from x) xl.now p target.old target.new s) }
 {
     sheafbuckle::sheafbuckle_reround(mode, x, xl, p, target)
 }
@@ -97,7 +98,7 @@ pub extern "C" fn sheafbuckle_to_double(mode: u8, x: PlainNumber, xl: &[u64]) ->
 // A number to the enclosing pair of doubles.
 #[unsafe(no_mangle)]
 pub extern "C" fn sheafbuckle_enclose(x: PlainNumber, xl: &[u64]) -> PlainPair
-    ensures { enclosed_from result ≡ enclosed_of (operand_of (number_from x) xl.now) }
+    ensures { result ≡ enclosed_told (enclosed_of (operand_of (number_from x) xl.now)) }
 {
     sheafbuckle::sheafbuckle_enclose(x, xl)
 }
@@ -105,7 +106,7 @@ pub extern "C" fn sheafbuckle_enclose(x: PlainNumber, xl: &[u64]) -> PlainPair
 // A double to a number of precision 53, exact; the target is one limb.
 #[unsafe(no_mangle)]
 pub extern "C" fn sheafbuckle_from_double(d: f64, target: &mut [u64]) -> PlainRead
-    ensures result_value { read_from result ≡ double_read_of (length target.old) d }
+    ensures result_value { result ≡ read_told (double_read_of (length target.old) d) }
     ensures target_after { target.new ≡ read_limbs target.old d }
 {
     sheafbuckle::sheafbuckle_from_double(d, target)
@@ -126,7 +127,7 @@ pub extern "C" fn sheafbuckle_write_line(
     limbs: &[u64],
     room: &mut [u8],
 ) -> PlainWritten
-    ensures result_value { written_from result ≡ written_of (number_from x) limbs.now (length room.old) }
+    ensures result_value { result ≡ written_told (written_of (number_from x) limbs.now (length room.old)) }
     ensures room_after { room.new ≡ room_after (number_from x) limbs.now room.old }
 {
     sheafbuckle::sheafbuckle_write_line(x, limbs, room)
@@ -135,7 +136,7 @@ pub extern "C" fn sheafbuckle_write_line(
 // The number that a line holds, without its limbs.
 #[unsafe(no_mangle)]
 pub extern "C" fn sheafbuckle_read_head(line: &[u8]) -> PlainRead
-    ensures { head_from result ≡ head_of line.now }
+    ensures { result ≡ read_told (head_of line.now) }
 {
     sheafbuckle::sheafbuckle_read_head(line)
 }
@@ -143,7 +144,7 @@ pub extern "C" fn sheafbuckle_read_head(line: &[u8]) -> PlainRead
 // The number that a line holds, its limbs into the target.
 #[unsafe(no_mangle)]
 pub extern "C" fn sheafbuckle_read_line(line: &[u8], target: &mut [u64]) -> PlainRead
-    ensures result_value { head_from result ≡ read_of (length target.old) line.now }
+    ensures result_value { result ≡ read_told (read_of (length target.old) line.now) }
     ensures target_after { target.new ≡ target_after line.now target.old }
 {
     sheafbuckle::sheafbuckle_read_line(line, target)

@@ -1,7 +1,0 @@
--- `arithmetic::sheafbuckle_subtract`: the kernel's own difference, over the numbers that the plain fields say. Assumes nothing.
-use Rattle.plain.proofs.Told.{summed_told}
-use Rattle.sheafbuckle.proofs.arithmetic.sheafbuckle_subtract.Goals as goal
-
-pub returns : goal.returns
-returns c =
-    summed_told _ _ _ _ _ _ _ _ _ _ _ _ _ c.number_from.ensures c.number_from-2.ensures c.plain_sum.ensures c.subtract.ensures
