@@ -1,19 +1,11 @@
 // Comparisons: for each its refusal, place and order.
-use order::Order;
+use std::cmp::Ordering;
 use std::io;
 use std::io::Write;
 use vectors::{Fields, LIMB_ROOM, RefusalFields};
 
-fn order_number(order: Order) -> i8 {
-    match order {
-        Order::Less => -1,
-        Order::Equal => 0,
-        Order::Greater => 1,
-    }
-}
-
 // The operation, the mode and the target take 26 digits; then come the two numbers with their limbs. The order stands in
-// two's complement.
+// two's complement, 0 where they are refused.
 pub fn run_case(mut fields: Fields, answer: &mut Vec<u8>) -> io::Result<()> {
     let mut x_room = [0u64; LIMB_ROOM];
     let mut y_room = [0u64; LIMB_ROOM];
@@ -23,7 +15,7 @@ pub fn run_case(mut fields: Fields, answer: &mut Vec<u8>) -> io::Result<()> {
     let y = fields.number();
     let yl = fields.limbs(&mut y_room);
     let compared = order::compare(x, xl, y, yl);
-    let refusal = RefusalFields(compared.refusal);
-    let order = order_number(compared.order);
+    let refusal = RefusalFields(compared.err());
+    let order = compared.unwrap_or(Ordering::Equal) as i8;
     writeln!(answer, "{refusal}{order:02x}")
 }

@@ -1,7 +1,7 @@
 // Conversions of numbers to doubles and back. A double stands by its bits.
 use crate::answers::put_read;
 use checks::Refusal;
-use doubles::{Converted, Enclosed};
+use doubles::{Converted, Enclosing};
 use std::io;
 use std::io::Write;
 use vectors::{Fields, LIMB_ROOM, RefusalFields};
@@ -43,22 +43,24 @@ impl From<u8> for Conversion {
 }
 
 // Case 0 is exact, 1 below, 2 above, 3 refused.
-fn put_converted(converted: Converted, answer: &mut Vec<u8>) -> io::Result<()> {
-    let none = Refusal { rule: 0, place: 0 };
-    let (refusal, case, bits) = match converted {
-        Converted::Exact(d) => (none, 0u8, bits_of(d)),
-        Converted::Below(d) => (none, 1, bits_of(d)),
-        Converted::Above(d) => (none, 2, bits_of(d)),
-        Converted::Refused(refusal) => (refusal, 3, 0),
+fn put_converted(converted: Result<Converted, Refusal>, answer: &mut Vec<u8>) -> io::Result<()> {
+    let (case, bits) = match converted {
+        Ok(Converted::Exact(d)) => (0u8, bits_of(d)),
+        Ok(Converted::Below(d)) => (1, bits_of(d)),
+        Ok(Converted::Above(d)) => (2, bits_of(d)),
+        Err(_) => (3, 0),
     };
-    let refusal = RefusalFields(refusal);
+    let refusal = RefusalFields(converted.err());
     writeln!(answer, "{refusal}{case:02x}{bits:016x}")
 }
 
-fn put_enclosed(enclosed: Enclosed, answer: &mut Vec<u8>) -> io::Result<()> {
-    let refusal = RefusalFields(enclosed.refusal);
-    let lower = bits_of(enclosed.pair.lower);
-    let upper = bits_of(enclosed.pair.upper);
+// Both ends are +0 where the number is refused.
+fn put_enclosed(enclosed: Result<Enclosing, Refusal>, answer: &mut Vec<u8>) -> io::Result<()> {
+    let refusal = RefusalFields(enclosed.err());
+    let (lower, upper) = match enclosed {
+        Ok(pair) => (bits_of(pair.lower), bits_of(pair.upper)),
+        Err(_) => (0, 0),
+    };
     writeln!(answer, "{refusal}{lower:016x}{upper:016x}")
 }
 
@@ -83,7 +85,7 @@ fn run_double(mut fields: Fields, answer: &mut Vec<u8>) -> io::Result<()> {
         return Ok(());
     };
     let read = unpack::from_double(double, target);
-    put_read(read.refusal, read.number, target, answer)
+    put_read(read, target, answer)
 }
 
 // What is asked (2), and then its fields.

@@ -1,6 +1,6 @@
 // Stored lines, written and read.
 use crate::answers::put_read;
-use lines::Head;
+use checks::{Number, Refusal, Rule};
 use std::io;
 use std::io::Write;
 use vectors::{Fields, LIMB_ROOM, RefusalFields, put_all};
@@ -12,14 +12,17 @@ const ROOM: usize = 2048;
 const ANSWER_ROOM: usize = 4096;
 
 // Whether the head alone is what it must be beside the answer of the whole line: the same, or accepted where the limbs are refused.
-fn head_agrees(line: &[u8], whole: Head) -> bool {
+fn head_agrees(line: &[u8], whole: Result<Number, Refusal>) -> bool {
     let head = reader::read_head(line);
-    let told = head.refusal;
-    let given = whole.refusal;
-    if (given.rule == 3) | (given.rule == 5) {
-        return told.rule == 0;
+    match whole {
+        Err(
+            Refusal {
+                rule: Rule::Limbs | Rule::Form,
+                ..
+            },
+        ) => head.is_ok(),
+        _ => head == whole,
     }
-    (head.number == whole.number) & (told.rule == given.rule) & (told.place == given.place)
 }
 
 // Room in bytes (4), or all where there are not so many, fill (2), a number. The answer has the whole room.
@@ -31,8 +34,8 @@ fn run_write(mut fields: Fields, answer: &mut Vec<u8>) -> io::Result<()> {
     let x = fields.number();
     let xl = fields.limbs(&mut x_room);
     let written = writer::write_line(x, xl, room);
-    let refusal = RefusalFields(written.refusal);
-    let size = written.count;
+    let refusal = RefusalFields(written.err());
+    let size = written.unwrap_or(0);
     write!(answer, "{refusal}{size:04x}")?;
     put_all(answer, room, 2)?;
     writeln!(answer)?;
@@ -56,7 +59,7 @@ fn run_read(mut fields: Fields, answer: &mut Vec<u8>) -> io::Result<()> {
     if !head_agrees(line, read) {
         return Ok(());
     }
-    put_read(read.refusal, read.number, target, answer)
+    put_read(read, target, answer)
 }
 
 // Operation 0 writes, any other reads.

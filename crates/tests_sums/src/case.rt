@@ -1,8 +1,8 @@
 // One case: a line that asks for a sum, and the line that answers it.
-use reports::Sum;
+use reports::{Rounded, Sum};
 use std::io;
 use std::io::Write;
-use vectors::{Fields, LIMB_ROOM, NumberFields, RefusalFields, put_all};
+use vectors::{Fields, LIMB_ROOM, NO_NUMBER, NumberFields, RefusalFields, put_all};
 
 // What a line asks of its numbers: 0 adds, 1 subtracts, any other re-rounds the first one.
 #[derive(Clone, Copy)]
@@ -25,14 +25,16 @@ impl From<u8> for Operation {
 // Refusal, number, ternary value in two's complement, depth, limbs used of each operand, target.
 fn put_sum(s: Sum, target: &[u64], answer: &mut Vec<u8>) -> io::Result<()> {
     let Sum {
-        number,
-        ternary,
         depth,
         first,
         second,
-        refusal,
+        answer: sum,
     } = s;
-    let refusal = RefusalFields(refusal);
+    let refusal = RefusalFields(sum.err());
+    let Rounded { number, ternary } = sum.unwrap_or(Rounded {
+        number: NO_NUMBER,
+        ternary: 0,
+    });
     let number = NumberFields(number);
     write!(answer, "{refusal}{number}")?;
     write!(answer, "{ternary:02x}{depth:04x}{first:04x}{second:04x}")?;

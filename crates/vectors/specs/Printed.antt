@@ -1,19 +1,21 @@
 -- What is printed for fields. Definitions only.
-use Rattle.std.specs.Prelude.{ℕ, ◌-◌, ◌^◌, List, [], ◌++◌, false, cond}
+use Rattle.std.specs.Prelude.{ℕ, ◌-◌, ◌^◌, List, [], ◌++◌, false, cond, codes, Option, Some, None}
 use Rattle.std.specs.Int.{w32, cast_unsigned}
 use Rattle.std.specs.Fmt.{padded_integral, format_spec, radix_digits}
 use Rattle.checks.specs.declared.Kind.{Kind}
 use Rattle.checks.specs.declared.Kind.TheVariants.{Regular, Zero}
 use Rattle.checks.specs.declared.Number.{Number}
 use Rattle.checks.specs.declared.Refusal.{Refusal}
+use Rattle.checks.specs.Refusal.{rule_number, place_number}
 
 -- a number in so many lowercase hexadecimal digits, or in as many more as it takes
 abbrev pub in_digits : ℕ → ℕ → List ℕ
 in_digits n v = padded_integral (format_spec 32 0 4 n (2 ^ 64 - 1)) false [] (radix_digits 16 false v)
 
--- rule and place
-abbrev pub refusal_text : Refusal → List ℕ
-refusal_text r = in_digits 2 r.rule ++ in_digits 2 r.place
+-- rule and place, or 0000 where nothing is refused
+abbrev pub refusal_text : Option Refusal → List ℕ
+refusal_text None = codes "0000"
+refusal_text (Some r) = in_digits 2 (rule_number r.rule) ++ in_digits 2 (place_number r.place)
 
 -- 00 regular, 01 a zero
 abbrev pub kind_number : Kind → ℕ

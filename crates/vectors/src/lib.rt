@@ -8,5 +8,5 @@ mod printing; // printing.rt: fields of an answer
 mod reading; // reading.rt: fields of a line
 
 pub use answering::answer_lines;
-pub use printing::{NumberFields, RefusalFields, put_all};
+pub use printing::{NO_NUMBER, NumberFields, RefusalFields, put_all};
 pub use reading::{Fields, LIMB_ROOM, filled};

@@ -2,22 +2,34 @@
 ghost use Rattle.std.specs.Prelude.{Some};
 ghost use Rattle.vectors.specs.Printed.{refusal_text, number_text};
 
-use checks::{Number, Refusal};
+use checks::{Kind, Number, Refusal};
 use std::io::Write;
 use std::{fmt, io};
 
-// A refusal's rule and place, with which each answer begins.
+// A refusal's rule and place, with which each answer begins; both 0 where nothing is refused.
 #[derive(Clone, Copy)]
-pub struct RefusalFields(pub Refusal);
+pub struct RefusalFields(pub Option<Refusal>);
 
 impl fmt::Display for RefusalFields {
     ghost output = { λ r. Some (refusal_text r.0) };
 
     fn fmt<W: fmt::Write>(&self, f: &mut fmt::Formatter<W>) -> fmt::Result {
-        let Refusal { rule, place } = self.0;
+        let Some(refusal) = self.0 else {
+            return write!(f, "0000");
+        };
+        let rule = refusal.rule.number();
+        let place = refusal.place.number();
         write!(f, "{rule:02x}{place:02x}")
     }
 }
+
+// What a refused answer has in place of a number: +0 of precision 2.
+pub const NO_NUMBER: Number = Number {
+    negative: false,
+    kind: Kind::Zero,
+    precision: 2,
+    exponent: 0,
+};
 
 // A number without its limbs, as `Fields::number` reads it. The exponent stands in two's complement.
 #[derive(Clone, Copy)]
