@@ -26,3 +26,8 @@ kind_number Zero = 1
 abbrev pub number_text : Number → List ℕ
 number_text x =
     in_digits 2 (cond x.negative 1 0) ++ (in_digits 2 (kind_number x.kind) ++ (in_digits 16 x.precision ++ in_digits 8 (cast_unsigned w32 x.exponent)))
+
+-- an item of a run in so many digits, where its type says what number it is
+abbrev pub item_text : ℕ → Option ℕ → List ℕ
+item_text n None = []
+item_text n (Some v) = in_digits n v

@@ -1,6 +1,7 @@
 // Fields of an answer, each in so many digits.
-ghost use Rattle.std.specs.Prelude.{Some};
-ghost use Rattle.vectors.specs.Printed.{refusal_text, number_text};
+ghost use Rattle.std.specs.Prelude.{Some, IsSome, OnOk, flat_map};
+ghost use Rattle.std.specs.Io.KnownBytes.{Appends};
+ghost use Rattle.vectors.specs.Printed.{refusal_text, number_text, item_text};
 
 use checks::{Kind, Number, Refusal};
 use std::io::Write;
@@ -56,7 +57,9 @@ pub fn put_all<T: fmt::LowerHex + fmt::Radix + Copy, W: Write>(
     out: &mut W,
     items: &[T],
     digits: usize,
-) -> io::Result<()> {
+) -> io::Result<()>
+    ensures { ((x : T) → IsSome (T.word x)) → OnOk result (Appends (W.contents out.old) (W.contents out.new) (flat_map (λ x. item_text digits (T.word x)) items.now)) }
+{
     for item in items {
         write!(out, "{item:0digits$x}")?;
     }
