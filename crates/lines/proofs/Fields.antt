@@ -88,6 +88,15 @@ module _ (w : ℕ) where
         | no g ↦ rw (lt-ltb w 2147483648 (lt_of_not-le g)) (omega arith)
       ]
 
+  -- the library's reading of 32 bits is the definition
+  pub signed_is : w < 4294967296 → to_z w32 w ≡ signed_of w
+  unfolding signed_of
+  signed_is h =
+      elim (dec_le 2147483648 w) [
+        | yes g ↦ simp (le-ltb w 2147483648 g, lt-ltb w 4294967296 h) (ap negsuc (omega arith))
+        | no g ↦ simp (lt-ltb w 2147483648 (lt_of_not-le g))
+      ]
+
   -- written in 32 bits and read
   pub signed_back : (z : ℤ) → w < 4294967296 → z ≡ signed_of w → to_z w32 (of_z w32 z) ≡ signed_of w
   signed_back z h e = rw e (to_z-of_z (signed_fits h))

@@ -37,7 +37,7 @@ line_fits x l n h = rw (size_is x l n) (go (is_zero_kind x.kind) (limbs_more x.p
 module _ (x : Number) (l : List ℕ) (room : ℕ) (a : write_refusal x l room ≡ accepted) where
   pub at_most : length (line_of x l) ≤ longest_line
   unfolding write_refusal
-  at_most = let h = accepted_all _ refl a in line_fits x l (length_count x.precision (length l) h.1.0) (precision_range x.precision h.0).1
+  at_most = let h = accepted_all _ a in line_fits x l (length_count x.precision (length l) h.1.0) (precision_range x.precision h.0).1
 
 -- attained by every regular number of the largest precision
 pub attained : (x : Number) (l : List ℕ) → is_zero_kind x.kind ≡ false → x.precision ≡ most_precision → length l ≡ limbs_for x.precision → length (line_of x l) ≡ longest_line

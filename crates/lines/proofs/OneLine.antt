@@ -11,7 +11,7 @@ use lib.Seq.{take-add, drop-drop, drop-cons}
 use borrow.Author.Tests.{lt-ltb, le-ltb, le-leb, leb-true, eqb-true}
 use Rattle.numbers.specs.Limits.{limbs_for}
 use Rattle.checks.specs.Number.{operand_of, is_zero_kind}
-use Rattle.checks.specs.Check.{accepted, precision_holds, length_holds, exponent_holds, form_holds}
+use Rattle.checks.specs.Check.{accepted, left_by, precision_holds, length_holds, exponent_holds, form_holds}
 use Rattle.checks.proofs.Tables.{AllHold, accepted_all, all_accepted}
 use Rattle.checks.proofs.Accepted.{length_count}
 use Rattle.text.specs.Digits.{numeral}
@@ -75,7 +75,7 @@ module _ (line : List ℕ) (digits : digits_hold line ≡ true) where
 module _ (line : List ℕ) (n : ℕ) (a : read_refusal n line ≡ accepted) where
   tests : AllHold (head_tests line ++ limb_tests n line)
   unfolding read_refusal head_tests limb_tests
-  tests = accepted_all (head_tests line ++ limb_tests n line) refl a
+  tests = accepted_all (head_tests line ++ limb_tests n line) a
 
   long : shortest_line ≤ length line
   unfolding head_tests limb_tests
@@ -158,5 +158,5 @@ module _ (line : List ℕ) (n : ℕ) (a : read_refusal n line ≡ accepted) wher
 
   -- so a room of the line's size holds that line afterwards
   pub room_again : (room : List ℕ) → length room ≡ length line → room_after (number_in line) (limbs_read n line) room ≡ line
-  unfolding room_after accepted
+  unfolding room_after left_by accepted
   room_again room h = rw (write_again (length room) (omega arith), written_again) (onto_all line room (omega arith))

@@ -15,7 +15,8 @@ use Rattle.checks.specs.declared.Number.{Number}
 use Rattle.checks.specs.declared.Kind.{Kind}
 use Rattle.checks.specs.declared.Kind.TheVariants.{Regular, Zero}
 use Rattle.checks.specs.Number.{operand_of, is_zero_kind}
-use Rattle.checks.specs.Check.{accepted, exponent_holds, form_holds}
+use Rattle.std.specs.Prelude.{Ok}
+use Rattle.checks.specs.Check.{accepted, left_by, answered, exponent_holds, form_holds}
 use Rattle.checks.proofs.Tables.{accepted_all, all_accepted}
 use Rattle.numbers.specs.Operand.{WellFormed}
 use Rattle.checks.specs.Passes.{Passes}
@@ -24,7 +25,7 @@ use Rattle.text.specs.Digits.{all_digits, worth, numeral}
 use Rattle.text.proofs.Digits.{digits_append, digits_nil}
 use Rattle.text.proofs.Numeral.{length_numeral, numeral_digits, worth_of_numeral}
 use Rattle.lines.specs.Line.{kind_byte, twos_complement, head_digits, limb_digits, line_feed, line_of, shortest_line, line_size}
-use Rattle.lines.specs.Reading.{field, kind_in, signed_of, negative_of, kind_of, number_in, limbs_in, operand_in, digits_hold, head_tests, limb_tests, read_refusal, answered, read_of, limbs_read, target_after}
+use Rattle.lines.specs.Reading.{field, kind_in, signed_of, negative_of, kind_of, number_in, limbs_in, operand_in, digits_hold, head_tests, limb_tests, read_refusal, read_of, limbs_read, target_after}
 use Rattle.lines.specs.Writing.{write_refusal}
 use Rattle.lines.proofs.Room.{length_limb_digits}
 use Rattle.lines.proofs.Size.{length_head, at_least, size_is}
@@ -139,7 +140,7 @@ precision_fits = omega arith
 module _ (x : Number) (l : List ℕ) (w : Below (2 ^ 64) l) (room : ℕ) (a : write_refusal x l room ≡ accepted) where
   pub passes : Passes (operand_of x l)
   unfolding write_refusal operand_of
-  passes = let h = accepted_all _ refl a in record { precision = h.0; limbs = h.1.0; exponent = h.1.1.0; form = h.1.1.1.0 }
+  passes = let h = accepted_all _ a in record { precision = h.0; limbs = h.1.0; exponent = h.1.1.0; form = h.1.1.1.0 }
 
   good : WellFormed (operand_of x l)
   unfolding operand_of
@@ -226,13 +227,13 @@ module _ (x : Number) (l : List ℕ) (w : Below (2 ^ 64) l) (room : ℕ) (a : wr
       )
 
   -- "Each accepted line is what the writer gives for the number read", the other way round
-  pub read_back : read_of (length l) (line_of x l) ≡ record { number = x; refusal = accepted }
+  pub read_back : read_of (length l) (line_of x l) ≡ Ok x
   unfolding read_of answered accepted
   read_back = rw (read_accepted, number_back)
 
   -- the target afterwards: the limbs of a regular number, 0 for a zero
   pub limbs_read_back : (target : List ℕ) → length target ≡ length l → target_after (line_of x l) target ≡ cond (is_zero_kind x.kind) (replicate (length l) 0) l
-  unfolding target_after limbs_read accepted
+  unfolding target_after left_by limbs_read accepted
   limbs_read_back target n = rw (n, read_accepted, number_back) (go (is_zero_kind x.kind) refl)
     where
       go : (b : Bool) → is_zero_kind x.kind ≡ b → cond b (replicate (length l) 0) (limbs_in (length l) (line_of x l)) ≡ cond b (replicate (length l) 0) l

@@ -6,23 +6,23 @@ use Prim.Native.Nat.{ℕ, ◌^◌}
 use lib.ListN.{length}
 use Rattle.limb.specs.Value.{Below}
 use Rattle.checks.specs.declared.Number.{Number}
+use Rattle.checks.specs.declared.Refusal.{Refusal}
+use Rattle.std.specs.Prelude.{Result}
 use Rattle.checks.specs.Number.{is_zero_kind}
 use Rattle.checks.specs.Check.{accepted}
 use Rattle.numbers.specs.Limits.{limbs_for}
-use Rattle.lines.specs.declared.Head.{Head}
-use Rattle.lines.specs.declared.Written.{Written}
 use Rattle.lines.specs.Line.{line_of}
 use Rattle.lines.specs.Reading.{head_of, read_of, target_after}
 use Rattle.lines.specs.Writing.{write_refusal, written_of, room_after}
 use Rattle.lines.proofs.RoundTrip.{number_back, regular_back, count}
 
-pub head_unique : (line : List ℕ) (r s : Head) → r ≡ head_of line → s ≡ head_of line → r ≡ s
+pub head_unique : (line : List ℕ) (r s : Result Number Refusal) → r ≡ head_of line → s ≡ head_of line → r ≡ s
 head_unique line r s e f = e ∙ sym f
 
-pub read_unique : (line t : List ℕ) (r s : Head) (u v : List ℕ) → r ≡ read_of (length t) line → s ≡ read_of (length t) line → u ≡ target_after line t → v ≡ target_after line t → (r ≡ s) × (u ≡ v)
+pub read_unique : (line t : List ℕ) (r s : Result Number Refusal) (u v : List ℕ) → r ≡ read_of (length t) line → s ≡ read_of (length t) line → u ≡ target_after line t → v ≡ target_after line t → (r ≡ s) × (u ≡ v)
 read_unique line t r s u v e f g h = (e ∙ sym f, g ∙ sym h)
 
-pub written_unique : (x : Number) (l room : List ℕ) (r s : Written) (u v : List ℕ) → r ≡ written_of x l (length room) → s ≡ written_of x l (length room) → u ≡ room_after x l room → v ≡ room_after x l room → (r ≡ s) × (u ≡ v)
+pub written_unique : (x : Number) (l room : List ℕ) (r s : Result ℕ Refusal) (u v : List ℕ) → r ≡ written_of x l (length room) → s ≡ written_of x l (length room) → u ≡ room_after x l room → v ≡ room_after x l room → (r ≡ s) × (u ≡ v)
 written_unique x l room r s u v e f g h = (e ∙ sym f, g ∙ sym h)
 
 -- a line has one number: two that the writer accepts and that have one line are the same

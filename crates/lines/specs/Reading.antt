@@ -1,17 +1,18 @@
 -- What reading a stored line answers, and what it leaves in the target. Definitions only.
 -- Document 01, "The stored line": "Reading checks, in order: at least 15 bytes (8), 9, 10, 2, exact size (8), 4, 3, 5."
-use Rattle.std.specs.Prelude.{ℕ, zero, suc, ◌+◌, ◌-◌, ◌*◌, ◌^◌, Bool, cond, ◌&&◌, ◌||◌, List, [], ◌∷◌, ◌++◌, leb, ltb, eqb, ℤ, pos, length, take, drop, get_or, replicate}
+use Rattle.std.specs.Prelude.{ℕ, zero, suc, ◌+◌, ◌-◌, ◌*◌, ◌^◌, Bool, cond, ◌&&◌, ◌||◌, List, [], ◌∷◌, ◌++◌, leb, ltb, eqb, ℤ, pos, length, take, drop, get_or, replicate, Result}
 use Rattle.std.proofs.Math.IntN.{sub_ℕ}
 use Rattle.numbers.specs.Limits.{limbs_for}
 use Rattle.numbers.specs.Operand.{Operand}
 use Rattle.checks.specs.declared.Number.{Number}
+use Rattle.checks.specs.declared.Rule.TheVariants.{Precision, Limbs, Exponent, Form, LineSize, LineByte, LineKind}
+use Rattle.checks.specs.declared.Place.TheVariants.{First, Target}
 use Rattle.checks.specs.declared.Refusal.{Refusal}
 use Rattle.checks.specs.declared.Kind.{Kind}
 use Rattle.checks.specs.declared.Kind.TheVariants.{Regular, Zero}
-use Rattle.checks.specs.Number.{is_zero_kind, operand_of, nothing}
-use Rattle.checks.specs.Check.{Test, test, first_refusal, precision_holds, length_holds, exponent_holds, form_holds}
+use Rattle.checks.specs.Number.{is_zero_kind, operand_of}
+use Rattle.checks.specs.Check.{Test, test, first_refusal, answered, left_by, precision_holds, length_holds, exponent_holds, form_holds}
 use Rattle.text.specs.Digits.{all_digits, worth}
-use Rattle.lines.specs.declared.Head.{Head}
 use Rattle.lines.specs.Line.{line_feed, shortest_line, line_size}
 
 -- ---- what stands in a line
@@ -54,39 +55,35 @@ digits_hold line = eqb (get_or line (length line - 1) 0) line_feed && all_digits
 
 unfoldable pub head_tests : List ℕ → List Test
 head_tests line =
-    test (leb shortest_line (length line)) 8 1
-    ∷ test (digits_hold line) 9 1
-    ∷ test (leb (kind_in line) 3) 10 1
-    ∷ test (precision_holds (number_in line).precision) 2 1
-    ∷ test (eqb (length line) (line_size (number_in line))) 8 1
-    ∷ test (exponent_holds (operand_in line)) 4 1
+    test (leb shortest_line (length line)) LineSize First
+    ∷ test (digits_hold line) LineByte First
+    ∷ test (leb (kind_in line) 3) LineKind First
+    ∷ test (precision_holds (number_in line).precision) Precision First
+    ∷ test (eqb (length line) (line_size (number_in line))) LineSize First
+    ∷ test (exponent_holds (operand_in line)) Exponent First
     ∷ []
 
 -- into a target of n limbs
 unfoldable pub limb_tests : ℕ → List ℕ → List Test
 limb_tests n line =
-    test (length_holds (number_in line).precision n) 3 3
-    ∷ test (form_holds (operand_in line)) 5 1
+    test (length_holds (number_in line).precision n) Limbs Target
+    ∷ test (form_holds (operand_in line)) Form First
     ∷ []
 
-unfoldable pub head_refusal : List ℕ → Refusal
+unfoldable pub head_refusal : List ℕ → Result (Unit {0}) Refusal
 head_refusal line = first_refusal (head_tests line)
 
-unfoldable pub read_refusal : ℕ → List ℕ → Refusal
+unfoldable pub read_refusal : ℕ → List ℕ → Result (Unit {0}) Refusal
 read_refusal n line = first_refusal (head_tests line ++ limb_tests n line)
 
 -- ---- the answer
 
--- "A refusal .. returns +0 of precision 2"
-unfoldable pub answered : Refusal → Number → Head
-answered r x = record { number = cond (eqb r.rule 0) x nothing; refusal = r }
-
 -- the number without its limbs
-unfoldable pub head_of : List ℕ → Head
+unfoldable pub head_of : List ℕ → Result Number Refusal
 head_of line = answered (head_refusal line) (number_in line)
 
 -- the whole number, into a target of n limbs
-unfoldable pub read_of : ℕ → List ℕ → Head
+unfoldable pub read_of : ℕ → List ℕ → Result Number Refusal
 read_of n line = answered (read_refusal n line) (number_in line)
 
 -- "A zero read sets the target limbs to 0."
@@ -96,4 +93,4 @@ limbs_read n line = cond (is_zero_kind (number_in line).kind) (replicate n 0) (l
 -- the target afterwards; refused, it is as it was
 unfoldable pub target_after : List ℕ → List ℕ → List ℕ
 target_after line target =
-    cond (eqb (read_refusal (length target) line).rule 0) (limbs_read (length target) line) target
+    left_by (read_refusal (length target) line) (limbs_read (length target) line) target

@@ -9,22 +9,8 @@ mod digits; // digits.rt: a line of digits and its fields
 ghost use Rattle.std.specs.Prelude.{◌≡◌};
 ghost use Rattle.lines.specs.Line.{shortest_line, longest_line, line_size};
 
-use checks::{Number, Refusal};
+use checks::Number;
 pub use digits::{digits_hold, field_at};
-
-// The number that a line holds, without its limbs, and the refusal; a refused number is +0 of precision 2.
-#[derive(Clone, Copy)]
-pub struct Head {
-    pub number: Number,
-    pub refusal: Refusal,
-}
-
-// How many bytes were written, and the refusal; 0 where the number is refused.
-#[derive(Clone, Copy)]
-pub struct Written {
-    pub count: usize,
-    pub refusal: Refusal,
-}
 
 // The bytes of a zero's line, LF included.
 pub const SHORTEST_LINE: usize = 15;

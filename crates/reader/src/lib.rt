@@ -2,26 +2,22 @@
 #![tactic(auto)]
 
 ghost use Rattle.std.specs.Prelude.{◌≡◌, true, ◌+◌, ◌*◌, ◌^◌, ◌≤◌, ◌<◌, length};
-ghost use Rattle.checks.specs.Number.{operand_of, nothing};
+ghost use Rattle.checks.specs.declared.Place.TheVariants.{First};
+ghost use Rattle.checks.specs.Number.{operand_of};
 ghost use Rattle.checks.specs.Check.{form_holds};
 ghost use Rattle.lines.specs.Line.{shortest_line};
 ghost use Rattle.lines.specs.Reading.{signed_of, kind_of, number_in, limbs_in, digits_hold, head_of, read_of, target_after};
 
-use checks::{Kind, Number, Refusal};
-use lines::{Head, SHORTEST_LINE, field_at, line_size};
+use checks::{Kind, Number, Place, Refusal, Rule};
+use lines::{SHORTEST_LINE, field_at, line_size};
 
-fn refused(rule: u8, place: u8) -> Head
-    ensures { result ≡ record { number = nothing; refusal = record { rule = rule; place = place } } }
+// A fault of the line itself.
+fn fault(rule: Rule) -> Refusal
+    ensures { result ≡ record { rule = rule; place = First } }
 {
-    let number = Number {
-        negative: false,
-        kind: Kind::Zero,
-        precision: 2,
-        exponent: 0,
-    };
-    Head {
-        number: number,
-        refusal: Refusal { rule, place },
+    Refusal {
+        rule,
+        place: Place::First,
     }
 }
 
@@ -30,10 +26,7 @@ fn signed(word: u64) -> i32
     requires { word < 2 ^ 32 }
     ensures { result ≡ signed_of word }
 {
-    if word < 2147483648 {
-        return checks::exponent_of(checks::BIAS + word);
-    }
-    checks::exponent_of(checks::BIAS - 4294967296 + word)
+    (word as u32).cast_signed()
 }
 
 // Kinds 0 and 1 are regular numbers.
@@ -64,38 +57,35 @@ fn number_in(line: &[u8]) -> Number
 }
 
 // Checks 10, 2, 8 for the exact size, and 4 of a line of digits.
-fn digits_head(line: &[u8]) -> Head
+fn digits_head(line: &[u8]) -> Result<Number, Refusal>
     requires { (digits_hold line.now ≡ true) × (shortest_line ≤ length line.now) }
     ensures { result ≡ head_of line.now }
 {
     if 3 < field_at(line, 0, 2) {
-        return refused(10, 1);
+        return Err(fault(Rule::LineKind));
     }
     let x = number_in(line);
     if !checks::precision_holds(x.precision) {
-        return refused(2, 1);
+        return Err(fault(Rule::Precision));
     }
     if line.len() != line_size(x) {
-        return refused(8, 1);
+        return Err(fault(Rule::LineSize));
     }
     if !checks::exponent_holds(x) {
-        return refused(4, 1);
+        return Err(fault(Rule::Exponent));
     }
-    Head {
-        number: x,
-        refusal: Refusal { rule: 0, place: 0 },
-    }
+    Ok(x)
 }
 
 // The number that a line holds, without its limbs.
-pub fn read_head(line: &[u8]) -> Head
+pub fn read_head(line: &[u8]) -> Result<Number, Refusal>
     ensures { result ≡ head_of line.now }
 {
     if line.len() < SHORTEST_LINE {
-        return refused(8, 1);
+        return Err(fault(Rule::LineSize));
     }
     if !lines::digits_hold(line) {
-        return refused(9, 1);
+        return Err(fault(Rule::LineByte));
     }
     digits_head(line)
 }
@@ -124,26 +114,25 @@ fn read_limbs(line: &[u8], target: &mut [u64])
 }
 
 // A line read into the target: its number, and its limbs.
-pub fn read_line(line: &[u8], target: &mut [u64]) -> Head
+pub fn read_line(line: &[u8], target: &mut [u64]) -> Result<Number, Refusal>
     ensures value { result ≡ read_of (length target.old) line.now }
     ensures target_after { target.new ≡ target_after line.now target.old }
 {
-    let head = read_head(line);
-    if head.refusal.rule != 0 {
-        return head;
-    }
-    let x = head.number;
+    let x = read_head(line)?;
     let n = target.len();
     if !checks::length_holds(x.precision, n) {
-        return refused(3, 3);
+        return Err(Refusal {
+            rule: Rule::Limbs,
+            place: Place::Target,
+        });
     }
     if checks::is_zero(x) {
         parts::clear(target);
-        return head;
+        return Ok(x);
     }
     if !form_in(x, line, n) {
-        return refused(5, 1);
+        return Err(fault(Rule::Form));
     }
     read_limbs(line, target);
-    head
+    Ok(x)
 }

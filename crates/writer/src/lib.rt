@@ -5,8 +5,8 @@ ghost use Rattle.std.specs.Prelude.{◌≡◌, ◌*◌, ◌≤◌, length};
 ghost use Rattle.lines.specs.Line.{kind_byte, head_digits, limb_digits, line_of, shortest_line};
 ghost use Rattle.lines.specs.Writing.{onto, written_of, room_after};
 
-use checks::{Kind, Number, Refusal};
-use lines::{Written, line_size};
+use checks::{Kind, Number, Place, Refusal, Rule};
+use lines::line_size;
 
 fn kind_byte(kind: Kind, negative: bool) -> u64
     ensures { result ≡ kind_byte kind negative }
@@ -56,25 +56,19 @@ fn write_whole(x: Number, limbs: &[u64], room: &mut [u8])
     room[last] = 10;
 }
 
-// A number's line at the start of the room; the other bytes stay.
-pub fn write_line(x: Number, limbs: &[u64], room: &mut [u8]) -> Written
+// A number's line at the start of the room; the other bytes stay. How many bytes it has.
+pub fn write_line(x: Number, limbs: &[u64], room: &mut [u8]) -> Result<usize, Refusal>
     ensures value { result ≡ written_of x limbs.now (length room.old) }
     ensures room_after { room.new ≡ room_after x limbs.now room.old }
 {
-    let refusal = admission::check_alone(x, limbs);
-    if refusal.rule != 0 {
-        return Written { count: 0, refusal };
-    }
+    admission::check_alone(x, limbs)?;
     let size = line_size(x);
     if room.len() < size {
-        return Written {
-            count: 0,
-            refusal: Refusal { rule: 3, place: 3 },
-        };
+        return Err(Refusal {
+            rule: Rule::Limbs,
+            place: Place::Target,
+        });
     }
     write_whole(x, limbs, room);
-    Written {
-        count: size,
-        refusal,
-    }
+    Ok(size)
 }

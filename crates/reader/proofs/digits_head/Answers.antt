@@ -21,7 +21,7 @@ pub returns-then-field_at-gt3 : goal.returns-then-field_at-gt3
 returns-then-field_at-gt3 c =
     let l : List ℕ = c.args.line.now in
     let k : 3 < kind_in l = omega (arith, c.field_at.ensures.0, kind_is l, c.if-field_at-gt3.true) in
-    refused_head l _ _ refl (no_kind l c.requires.1 c.requires.0 k) c.refused.ensures
+    rw c.fault.ensures (refused_head l _ (no_kind l c.requires.1 c.requires.0 k))
 
 pub returns-then-not-precision_holds : goal.returns-then-not-precision_holds
 returns-then-not-precision_holds c =
@@ -29,7 +29,7 @@ returns-then-not-precision_holds c =
     let long = c.requires.1 in
     let digits = c.requires.0 in
     let k : kind_in l ≤ 3 = omega (arith, c.field_at.ensures.0, kind_is l, c.if-field_at-gt3.false) in
-    refused_head l _ _ refl (no_precision l long digits k (at_line (λ (y : Number). precision_holds y.precision) c.precision_holds.ensures c.number_in-x.ensures (c.if-not-precision_holds.true))) c.refused-then-not-precision_holds.ensures
+    rw c.fault-then-not-precision_holds.ensures (refused_head l _ (no_precision l long digits k (at_line (λ (y : Number). precision_holds y.precision) c.precision_holds.ensures c.number_in-x.ensures (c.if-not-precision_holds.true))))
 
 pub returns-then-line-line_size : goal.returns-then-line-line_size
 returns-then-line-line_size c =
@@ -38,7 +38,7 @@ returns-then-line-line_size c =
     let digits = c.requires.0 in
     let k : kind_in l ≤ 3 = omega (arith, c.field_at.ensures.0, kind_is l, c.if-field_at-gt3.false) in
     let p = at_line (λ (y : Number). precision_holds y.precision) c.precision_holds.ensures c.number_in-x.ensures (c.if-not-precision_holds.false) in
-    refused_head l _ _ refl (no_size l long digits k p (λ e. c.if-line-line_size.true (e ∙ ap line_size (sym c.number_in-x.ensures) ∙ sym c.line_size.ensures))) c.refused-then-line-line_size.ensures
+    rw c.fault-then-line-line_size.ensures (refused_head l _ (no_size l long digits k p (λ e. c.if-line-line_size.true (e ∙ ap line_size (sym c.number_in-x.ensures) ∙ sym c.line_size.ensures))))
 
 pub returns-then-not-exponent_holds : goal.returns-then-not-exponent_holds
 returns-then-not-exponent_holds c =
@@ -48,7 +48,7 @@ returns-then-not-exponent_holds c =
     let k : kind_in l ≤ 3 = omega (arith, c.field_at.ensures.0, kind_is l, c.if-field_at-gt3.false) in
     let p = at_line (λ (y : Number). precision_holds y.precision) c.precision_holds.ensures c.number_in-x.ensures (c.if-not-precision_holds.false) in
     let s : length l ≡ line_size (number_in l) = c.if-line-line_size.false ∙ c.line_size.ensures ∙ ap line_size c.number_in-x.ensures in
-    refused_head l _ _ refl (no_exponent l long digits k p s (exponent_in l ∙ at_line (λ (y : Number). exponent_holds (operand_of y [])) c.exponent_holds.ensures c.number_in-x.ensures (c.if-not-exponent_holds.true))) c.refused-then-not-exponent_holds.ensures
+    rw c.fault-then-not-exponent_holds.ensures (refused_head l _ (no_exponent l long digits k p s (exponent_in l ∙ at_line (λ (y : Number). exponent_holds (operand_of y [])) c.exponent_holds.ensures c.number_in-x.ensures (c.if-not-exponent_holds.true))))
 
 pub returns : goal.returns
 returns c =

@@ -1,10 +1,7 @@
--- `reader::signed`: below 2^31 the word itself, else less 2^32. Assumes nothing.
+-- `reader::signed`: the library's reading of 32 bits. Assumes nothing.
 use mathlib.Core.Path.{◌∙◌}
-use Rattle.lines.proofs.Fields.{signed_low, signed_high, signed_back}
+use Rattle.lines.proofs.Fields.{signed_is, signed_back}
 use Rattle.reader.proofs.signed.Goals as goal
 
-pub returns-then-word-lt2147483648 : goal.returns-then-word-lt2147483648
-returns-then-word-lt2147483648 c = signed_back c.args.word _ c.requires (c.exponent_of.ensures ∙ signed_low _ c.if-word-lt2147483648.true)
-
 pub returns : goal.returns
-returns c = signed_back c.args.word _ c.requires (c.exponent_of-2.ensures ∙ signed_high _ c.if-word-lt2147483648.false c.requires)
+returns c = signed_back c.args.word _ c.requires (c.cast_signed.ensures ∙ signed_is c.args.word c.requires)
