@@ -1,4 +1,5 @@
-// Numbers and answers as structs of plain fields, laid out as C lays them out, and their making out of the kernel's own.
+// Numbers and answers as structs of plain fields, laid out as C lays them out, and their making out of the kernel's own. C's header has a kind as a bool,
+// a ternary value as -1, 0 or 1, and a refusal as its two numbers, 0 for none.
 #![tactic(auto)]
 
 ghost use Rattle.std.specs.Prelude.{◌≡◌};

@@ -61,8 +61,8 @@ fn first_refusal(mode: bool, x: Judged, y: Judged, t: Judged) -> Result<(), Refu
     refuse_places(Rule::Form, x.form, y.form, true)
 }
 
-// The refusal of two operands under a mode, with a target of p digits in n limbs. A call without a second operand or a target hands the
-// first operand over again: it is named for what it breaks before they are.
+// The refusal of two operands under a mode, which is its number, since one above 3 is refused, with a target of p digits in n limbs. A call
+// without a second operand or a target hands the first operand over again: it is named for what it breaks before they are.
 pub fn refuse(
     mode: u8,
     x: Number,
