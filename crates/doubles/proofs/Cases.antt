@@ -38,7 +38,7 @@ use Rattle.checks.proofs.Accepted.{accepted_converted, converted_unrefused, acce
 use Rattle.doubles.specs.declared.Converted.{Converted}
 use Rattle.doubles.specs.declared.Converted.TheVariants.{Exact, Below, Above}
 use Rattle.doubles.specs.declared.Enclosing.{Enclosing}
-use Rattle.select.specs.declared.Selected.{Selected}
+use Rattle.place.specs.declared.PlacedLimb.{PlacedLimb}
 use Rattle.unpack.specs.Double.{double_precision, double_least, double_most, sign_bit, packed, double}
 use Rattle.doubles.specs.Convert.{ranged_in, selected_in, converted_in, in_doubles, outside, case_of, double_case, converted_of, told, told_case, told_refusal, told_answer, told_call, told_of}
 use Rattle.doubles.specs.Enclose.{end_of, pair_of, enclosed_of}
@@ -226,7 +226,7 @@ module _ (mode : Mode) (x : Operand) (g : WellFormed x) (z : x.is_zero ≡ false
   pub first_digit : 2 ^ 52 ≤ d
   first_digit = digits_first 53 c (omega arith) (chosen_pos (way mode x.negative) 53 (mantissa x) (omega arith) (lt_of_lt_of_le (pow_pos (x.precision - 1)) (mantissa_ge x g z)))
 
-  module _ (s : Selected) (h : Selects mode x s) (r : Result Converted Refusal) where
+  module _ (s : PlacedLimb) (h : Selects mode x s) (r : Result Converted Refusal) where
     placed_is : s.placed ≡ placed_of (ranged E result)
     placed_is = h.placed ∙ ap placed_of shortened_is
 

@@ -1,18 +1,18 @@
 // Numbers to doubles, and to an enclosing pair of doubles. A double is stated by its bits.
 #![tactic(auto)]
 
-ghost use Rattle.std.specs.Prelude.{◌≡◌, false};
-ghost use Rattle.numbers.specs.Operand.{WellFormed};
+ghost use Rattle.std.specs.Prelude.{◌≡◌};
 ghost use Rattle.rounding.specs.Answer.{zero_of};
 ghost use Rattle.rounding.specs.declared.Mode.TheVariants.{Upward, Downward};
-ghost use Rattle.checks.specs.Number.{is_zero_kind, operand_of};
+ghost use Rattle.checks.specs.Number.{operand_of};
+ghost use Rattle.checks.specs.Held.{formed, regular};
 ghost use Rattle.select.specs.Steps.{Selects};
 ghost use Rattle.doubles.specs.Convert.{outside, case_of, double_case, in_doubles, converted_of, told, told_of};
 ghost use Rattle.doubles.specs.Enclose.{end_of, pair_of, enclosed_of};
 
-use checks::{Number, Place, Refusal, Rule};
+use checks::{Formed, Number, Place, Refusal, Regular, Rule};
+use place::PlacedLimb;
 use rounding::Mode;
-use select::Selected;
 
 mod pack; // pack.rt: bits of a double
 
@@ -55,10 +55,11 @@ fn outside(rule: Rule) -> Result<Converted, Refusal>
 }
 
 // The double of the 53 digits that a mode selects of a regular number, once the range is judged.
-fn judged(mode: Mode, x: Number, xl: &[u64], s: Selected) -> Result<Converted, Refusal>
-    requires { WellFormed (operand_of x xl.now) × (is_zero_kind x.kind ≡ false) × Selects mode (operand_of x xl.now) s }
-    ensures { result ≡ double_case (in_doubles mode (operand_of x xl.now)) }
+fn judged(mode: Mode, x: Regular, s: PlacedLimb) -> Result<Converted, Refusal>
+    requires { Selects mode (regular x) s }
+    ensures { result ≡ double_case (in_doubles mode (regular x.entry)) }
 {
+    let number = x.number;
     let placed = s.placed;
     if placed.rule == 6 {
         return outside(Rule::DoubleTooLarge);
@@ -69,7 +70,7 @@ fn judged(mode: Mode, x: Number, xl: &[u64], s: Selected) -> Result<Converted, R
     if placed.exponent < pack::LEAST_EXPONENT {
         return outside(Rule::DoubleTooSmall);
     }
-    let double = pack::pack(x.negative, placed.exponent, s.limb);
+    let double = pack::pack(number.negative, placed.exponent, s.limb);
     Ok(answer(placed.ternary, double))
 }
 
@@ -80,16 +81,30 @@ fn zero_exact(negative: bool) -> Result<Converted, Refusal>
     Ok(Converted::Exact(pack::zero_of(negative)))
 }
 
-// The double that a mode selects for a number of good form: 53 digits first, and then the range is judged.
-fn convert(mode: Mode, x: Number, xl: &[u64]) -> Result<Converted, Refusal>
-    requires { WellFormed (operand_of x xl.now) }
-    ensures { result ≡ double_case (in_doubles mode (operand_of x xl.now)) }
+// The double that a mode selects for a regular number: 53 digits first, and then the range is judged.
+fn convert_regular(mode: Mode, x: Regular) -> Result<Converted, Refusal>
+    ensures { result ≡ double_case (in_doubles mode (regular x.entry)) }
 {
-    if checks::is_zero(x) {
-        return zero_exact(x.negative);
+    let number = x.number;
+    let a = select::leading(x.limbs, number.precision);
+    judged(mode, x, select::select(mode, x, a))
+}
+
+// The double that a mode selects for a number of good form.
+fn convert(mode: Mode, x: Formed) -> Result<Converted, Refusal>
+    ensures { result ≡ double_case (in_doubles mode (formed x.entry)) }
+{
+    let number = x.number;
+    if checks::is_zero(number) {
+        return zero_exact(number.negative);
     }
-    let a = select::leading(xl, x.precision);
-    judged(mode, x, xl, select::select(mode, x, xl, a))
+    convert_regular(
+        mode,
+        Regular {
+            number,
+            limbs: x.limbs,
+        },
+    )
 }
 
 // A number to a double under a mode, once refusals 1 to 5 are checked.
@@ -101,7 +116,13 @@ pub fn to_double(mode: u8, x: Number, xl: &[u64]) -> Result<Converted, Refusal>
     let Ok(known) = Mode::try_from(mode) else {
         return outside(Rule::Mode);
     };
-    convert(known, x, xl)
+    convert(
+        known,
+        Formed {
+            number: x,
+            limbs: xl,
+        },
+    )
 }
 
 // The double of an answer.
@@ -128,18 +149,13 @@ fn pair_of(
 }
 
 // The pair of a regular number of good form; its leading digits are read once for both ends.
-fn enclose_regular(x: Number, xl: &[u64]) -> Result<Enclosing, Refusal>
-    requires { WellFormed (operand_of x xl.now) × (is_zero_kind x.kind ≡ false) }
-    ensures { result ≡ pair_of (double_case (in_doubles Downward (operand_of x xl.now))) (double_case (in_doubles Upward (operand_of x xl.now))) }
+fn enclose_regular(x: Regular) -> Result<Enclosing, Refusal>
+    ensures { result ≡ pair_of (double_case (in_doubles Downward (regular x.entry))) (double_case (in_doubles Upward (regular x.entry))) }
 {
-    let a = select::leading(xl, x.precision);
-    let down = judged(
-        Mode::Downward,
-        x,
-        xl,
-        select::select(Mode::Downward, x, xl, a),
-    );
-    let up = judged(Mode::Upward, x, xl, select::select(Mode::Upward, x, xl, a));
+    let number = x.number;
+    let a = select::leading(x.limbs, number.precision);
+    let down = judged(Mode::Downward, x, select::select(Mode::Downward, x, a));
+    let up = judged(Mode::Upward, x, select::select(Mode::Upward, x, a));
     pair_of(down, up)
 }
 
@@ -152,5 +168,8 @@ pub fn enclose(x: Number, xl: &[u64]) -> Result<Enclosing, Refusal>
         let zero = zero_exact(x.negative);
         return pair_of(zero, zero);
     }
-    enclose_regular(x, xl)
+    enclose_regular(Regular {
+        number: x,
+        limbs: xl,
+    })
 }

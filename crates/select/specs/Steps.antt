@@ -7,7 +7,7 @@ use Rattle.rounding.specs.Answer.{Answer, rounded}
 use Rattle.rounding.specs.declared.Mode.{Mode}
 use Rattle.place.specs.Placed.{placed_of, limbs_after}
 use Rattle.select.specs.declared.Head.{Head}
-use Rattle.select.specs.declared.Selected.{Selected}
+use Rattle.place.specs.declared.PlacedLimb.{PlacedLimb}
 use Rattle.unpack.specs.Double.{double_precision}
 
 -- the limbs, with a limb of 0 below them, are the top, the guard and a rest of as many limbs as stand below the top
@@ -22,6 +22,6 @@ pub record Leads (l : List ℕ) (h : Head) : Type 0 where
 unfoldable pub shortened : Mode → Operand → Answer
 shortened mode x = rounded (way mode x.negative) double_precision (last_weight x) x.negative (mantissa x)
 
-pub record Selects (mode : Mode) (x : Operand) (r : Selected) : Type 0 where
+pub record Selects (mode : Mode) (x : Operand) (r : PlacedLimb) : Type 0 where
   pub placed : r.placed ≡ placed_of (shortened mode x)
   pub limb : r.limb ∷ [] ≡ limbs_after double_precision (shortened mode x)

@@ -1,14 +1,13 @@
 // The 53 digits that a mode selects of a number, out of its two highest limbs and whether anything stands below.
 #![tactic(auto)]
 
-ghost use Rattle.std.specs.Prelude.{◌≡◌, not, false, ◌-◌, ◌*◌, ◌%◌, ◌^◌, ◌≤◌, ◌<◌, eqb, length};
+ghost use Rattle.std.specs.Prelude.{◌≡◌, not, ◌-◌, ◌*◌, ◌%◌, ◌^◌, ◌≤◌, ◌<◌, eqb, length};
 ghost use Rattle.limb.specs.Value.{value_of};
 ghost use Rattle.select.specs.Steps.{Leads, Selects};
-ghost use Rattle.numbers.specs.Operand.{WellFormed};
-ghost use Rattle.checks.specs.Number.{is_zero_kind, operand_of};
+ghost use Rattle.checks.specs.Held.{regular};
 
-use checks::Number;
-use place::Placed;
+use checks::Regular;
+use place::PlacedLimb;
 use rounding::Mode;
 
 // The top limb, the limb below it, and whether anything stands below both.
@@ -61,23 +60,12 @@ pub fn leading(limbs: &[u64], precision: u64) -> Head
     Head { top, guard, more }
 }
 
-// What is selected, and its digits at the top of a limb.
-#[derive(Clone, Copy)]
-pub struct Selected {
-    pub placed: Placed,
-    pub limb: u64,
-}
-
-// Of a regular number of good form, by its leading digits.
-pub fn select(mode: Mode, x: Number, xl: &[u64], a: Head) -> Selected
-    requires { WellFormed (operand_of x xl.now) × (is_zero_kind x.kind ≡ false) × Leads xl.now a }
-    ensures { Selects mode (operand_of x xl.now) result }
+// What is selected of a number, by its leading digits, and its digits at the top of a limb.
+pub fn select(mode: Mode, x: Regular, a: Head) -> PlacedLimb
+    requires { Leads x.limbs.now a }
+    ensures { Selects mode (regular x.entry) result }
 {
-    let unit = checks::counted_exponent(x.exponent) - 128;
-    let r = place::round_limb(x.negative, a.top, a.guard, a.more, unit, 53, mode);
-    let placed = r.placed;
-    Selected {
-        placed,
-        limb: r.limb,
-    }
+    let number = x.number;
+    let unit = checks::counted_exponent(number.exponent) - 128;
+    place::round_limb(number.negative, a.top, a.guard, a.more, unit, 53, mode)
 }

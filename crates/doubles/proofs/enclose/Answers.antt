@@ -18,9 +18,9 @@ returns-then-is_zero c =
     let e = c.zero_exact-zero.ensures in
     accepted_pair _ _ (sym c.in_ok-check_alone.ensures) _ (paired_ends _ _ _ _ (zero_case Downward _ _ z e) (zero_case Upward _ _ z e) c.pair_of.ensures)
 
-pub enclose_regular-requires : goal.enclose_regular-requires
+pub invariant_of-enclose_regular : goal.invariant_of-enclose_regular
 unfolding operand_of
-enclose_regular-requires c = (alone_formed _ _ (sym c.in_ok-check_alone.ensures) (λ i. (c.type_inv.xl i).fits), sym c.is_zero.ensures ∙ c.if-is_zero.false)
+invariant_of-enclose_regular c = record { formed = alone_formed _ _ (sym c.in_ok-check_alone.ensures) (λ i. (c.type_inv.xl i).fits); regular = sym c.is_zero.ensures ∙ c.if-is_zero.false }
 
 pub returns : goal.returns
 returns c = accepted_pair _ _ (sym c.in_ok-check_alone.ensures) _ c.enclose_regular.ensures

@@ -6,7 +6,7 @@ use Rattle.doubles.proofs.enclose_regular.Goals as goal
 
 pub leading-a-requires : goal.leading-a-requires
 unfolding operand_of
-leading-a-requires c = limb_count _ c.requires.0 c.requires.1
+leading-a-requires c = limb_count _ c.args.x.formed c.args.x.regular
 
 pub returns : goal.returns
 returns c = paired_ends _ _ _ _ c.judged-down.ensures c.judged-up.ensures c.pair_of.ensures

@@ -21,9 +21,9 @@ returns-in_default c =
     let least : c.args.mode ≤ 3 = accepted_mode _ _ _ (sym c.in_ok-check_converted.ensures) (λ i. (c.type_inv.xl i).fits) in
     absurd (omega arith)
 
-pub convert-requires : goal.convert-requires
+pub invariant_of-convert : goal.invariant_of-convert
 unfolding operand_of
-convert-requires c = accepted_formed _ _ _ (sym c.in_ok-check_converted.ensures) (λ i. (c.type_inv.xl i).fits)
+invariant_of-convert c = record { formed = accepted_formed _ _ _ (sym c.in_ok-check_converted.ensures) (λ i. (c.type_inv.xl i).fits) }
 
 pub returns : goal.returns
 unfolding operand_of
