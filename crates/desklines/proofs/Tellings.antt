@@ -4,9 +4,7 @@ use mathlib.Core.Bool.{true, false, cond}
 use mathlib.Core.List.{List, [], ◌∷◌, ◌++◌, append_assoc}
 use Prim.Native.Nat.{ℕ, zero, suc, ◌+◌, ◌-◌, ◌≤◌, ◌<◌}
 use native.Mathlib.Omega.{arith}
-use native.Mathlib.Decide.{ℕ_discrete}
-use borrow.Author.Tests.{eq-eqb, ne_eqb, ltb-true, ltb-false}
-use lib.Dec.{eqb}
+use borrow.Author.Tests.{ltb-true, ltb-false}
 use lib.IntN.{ℤ, pos, negsuc}
 use lib.Signed.{lt_z}
 use lib.ListN.{length, take, drop, set, length-append, length-drop}
@@ -15,18 +13,20 @@ use Rattle.lines.proofs.Longest.{line_fits}
 use Rattle.numbers.specs.Operand.{WellFormed}
 use Rattle.checks.specs.declared.Number.{Number}
 use Rattle.checks.specs.declared.Refusal.{Refusal}
+use Rattle.checks.specs.Refusal.{rule_number, place_number}
+use Rattle.std.specs.Prelude.{Result, Ok, Err, IfOk}
 use Rattle.checks.specs.Number.{operand_of}
-use Rattle.checks.specs.Check.{accepted, alone_refusal}
+use Rattle.checks.specs.Check.{accepted, answered, left_by}
 use Rattle.checks.proofs.Accepted.{alone_accepted}
 use Rattle.text.specs.Digits.{numeral}
 use Rattle.text.proofs.Numeral.{length_numeral}
-use Rattle.lines.specs.declared.Written.{Written}
 use Rattle.lines.specs.Line.{line_feed, line_of, longest_line}
 use Rattle.lines.specs.Writing.{onto, write_refusal, written_of, room_after}
 use Rattle.lines.proofs.Answered.{write_accepted}
 use Rattle.lines.proofs.Room.{onto_nothing, put_numeral, set_onto}
+use Rattle.reports.specs.declared.report.Rounded.{Rounded}
 use Rattle.reports.specs.declared.report.Sum.{Sum}
-use Rattle.desklines.specs.Answer.{refusal_line, ternary_byte, report_line, sum_lines, report_size, longest_answer}
+use Rattle.desklines.specs.Answer.{refusal_line, ternary_byte, report_line, answer_lines, sum_lines, report_size, longest_answer}
 use Rattle.desklines.specs.Written.{Tells, Appends}
 
 pub refusal_fits : 7 ≤ longest_answer
@@ -56,23 +56,23 @@ end_more out at h = (
 )
 
 -- ee, number, place, LF
-module _ (r : Refusal) (o a b c d : List ℕ) (i j k n : ℕ) where
-  pub refusal_told : Appends (numeral 2 238) 2 0 o a i → Appends (numeral 2 r.rule) 2 i a b j → Appends (numeral 2 r.place) 2 j b c k → Appends (line_feed ∷ []) 1 k c d n → Tells (refusal_line r) o d n
+module _ (r : Refusal) (o a b c d : List ℕ) (i j k n v w : ℕ) (rule : v ≡ rule_number r.rule) (place : w ≡ place_number r.place) where
+  pub refusal_told : Appends (numeral 2 238) 2 0 o a i → Appends (numeral 2 v) 2 i a b j → Appends (numeral 2 w) 2 j b c k → Appends (line_feed ∷ []) 1 k c d n → Tells (refusal_line r) o d n
   unfolding refusal_line
   refusal_told p q s t =
-      let w = p.1 [] o refl (onto_nothing o) in
-      let x = q.1 (numeral 2 238) o (length_numeral 2 238 ∙ sym p.0) w in
-      let y = s.1 (numeral 2 238 ++ numeral 2 r.rule) o (simp (length-append, length_numeral) (omega (arith, p.0, q.0))) x in
-      let z = t.1 ((numeral 2 238 ++ numeral 2 r.rule) ++ numeral 2 r.place) o (simp (length-append, length_numeral) (omega (arith, p.0, q.0, s.0))) y in
+      let x = p.1 [] o refl (onto_nothing o) in
+      let y = q.1 (numeral 2 238) o (length_numeral 2 238 ∙ sym p.0) x in
+      let z = s.1 (numeral 2 238 ++ numeral 2 v) o (simp (length-append, length_numeral) (omega (arith, p.0, q.0))) y in
+      let m = t.1 ((numeral 2 238 ++ numeral 2 v) ++ numeral 2 w) o (simp (length-append, length_numeral) (omega (arith, p.0, q.0, s.0))) z in
       record {
         count_is = simp (length-append, length_numeral) (omega (arith, p.0, q.0, s.0, t.0));
-        exit_is = z ∙ ap (λ (l : List ℕ). onto l o) (simp append_assoc);
+        exit_is = m ∙ ap (λ (l : List ℕ). onto l o) (simp (append_assoc, rule, place));
       }
 
 -- ternary value, depth, limbs of first, limbs of second, LF
-module _ (s : Sum) (at v : ℕ) (o a b c d e : List ℕ) (i j k l n : ℕ) where
-  pub report_told : v ≡ ternary_byte s.ternary → Appends (numeral 2 v) 2 at o a i → Appends (numeral 4 s.depth) 4 i a b j → Appends (numeral 2 s.first) 2 j b c k → Appends (numeral 2 s.second) 2 k c d l → Appends (line_feed ∷ []) 1 l d e n
-      → Appends (report_line s) report_size at o e n
+module _ (s : Sum) (ternary : ℤ) (at v : ℕ) (o a b c d e : List ℕ) (i j k l n : ℕ) where
+  pub report_told : v ≡ ternary_byte ternary → Appends (numeral 2 v) 2 at o a i → Appends (numeral 4 s.depth) 4 i a b j → Appends (numeral 2 s.first) 2 j b c k → Appends (numeral 2 s.second) 2 k c d l → Appends (line_feed ∷ []) 1 l d e n
+      → Appends (report_line ternary s) report_size at o e n
   unfolding report_line report_size
   report_told g p q r t u = (
     omega (arith, p.0, q.0, r.0, t.0, u.0),
@@ -89,9 +89,9 @@ pub refusal_length : (r : Refusal) → length (refusal_line r) ≡ 7
 unfolding refusal_line
 refusal_length r = simp (length-append, length_numeral)
 
-report_length : (s : Sum) → length (report_line s) ≡ report_size
+report_length : (t : ℤ) (s : Sum) → length (report_line t s) ≡ report_size
 unfolding report_line report_size
-report_length s = simp (length-append, length_numeral)
+report_length t s = simp (length-append, length_numeral)
 
 -- -1, 0, 1
 pub below_zero : (t : ℤ) → lt_z t (pos 0) ≡ true → 255 ≡ ternary_byte t
@@ -111,50 +111,58 @@ just_zero (pos zero) e f = refl
 just_zero (pos (suc n)) e f = absurd (omega (arith, ltb-false 0 (suc n) f))
 just_zero (negsuc n) e f = let z : ◌≡◌ {A = ℕ} 0 1 = cc in absurd (omega arith)
 
--- a sum that is refused
-pub refused_told : (s : Sum) (limbs o e : List ℕ) (n : ℕ) → (s.refusal.rule ≡ 0 → ⊥) → Tells (refusal_line s.refusal) o e n → Tells (sum_lines s limbs) o e n
-unfolding sum_lines
-refused_told s limbs o e n h t = simp (ne_eqb s.refusal.rule 0 h) t
+-- a sum that is refused, and one that is not
+pub refused_told : (s : Sum) (limbs o e : List ℕ) (n : ℕ) (r : Refusal) → s.answer ≡ Err r → Tells (refusal_line r) o e n → Tells (sum_lines s limbs) o e n
+unfolding sum_lines answer_lines
+refused_told s limbs o e n r h t = rw h t
+
+pub result_told : (s : Sum) (limbs o e : List ℕ) (n : ℕ) (a : Rounded) → s.answer ≡ Ok a → Tells (line_of a.number limbs ++ report_line a.ternary s) o e n → Tells (sum_lines s limbs) o e n
+unfolding sum_lines answer_lines report_line
+result_told s limbs o e n a h t = rw h t
 
 number_fits : (x : Number) (limbs : List ℕ) → WellFormed (operand_of x limbs) → length (line_of x limbs) ≤ longest_line
 unfolding operand_of
 number_fits x limbs formed = line_fits x limbs formed.count formed.most
 
+abbrev count_or : ℕ → Result ℕ Refusal → ℕ
+count_or n (Ok m) = m
+count_or n (Err r) = n
+
 -- a number of good form is written, and the report comes behind it
-module _ (s : Sum) (limbs o : List ℕ) (formed : WellFormed (operand_of s.number limbs)) (room : longest_answer ≤ length o) where
-  alone : (alone_refusal (operand_of s.number limbs)).rule ≡ 0
-  unfolding accepted
-  alone = ap (λ (r : Refusal). r.rule) (alone_accepted (operand_of s.number limbs) formed)
-
-  is_written : write_refusal s.number limbs (length o) ≡ accepted
+module _ (s : Sum) (a : Rounded) (limbs o : List ℕ) (formed : WellFormed (operand_of a.number limbs)) (room : longest_answer ≤ length o) where
+  is_written : write_refusal a.number limbs (length o) ≡ accepted
   unfolding longest_answer
-  is_written = write_accepted s.number limbs (length o) alone (omega (arith, number_fits s.number limbs formed))
+  is_written = write_accepted a.number limbs (alone_accepted (operand_of a.number limbs) formed) (length o) (omega (arith, number_fits a.number limbs formed))
 
-  count_is_size : (w : Written) → w ≡ written_of s.number limbs (length o) → w.count ≡ length (line_of s.number limbs)
-  unfolding written_of accepted
-  count_is_size w e = ap (λ (x : Written). x.count) e ∙ simp is_written
+  written_is : written_of a.number limbs (length o) ≡ Ok (length (line_of a.number limbs))
+  unfolding written_of answered accepted
+  written_is = rw is_written
 
-  pub count_fits : (w : Written) → w ≡ written_of s.number limbs (length o) → w.count + report_size ≤ length o
+  pub never_refused : (r : Refusal) → Err r ≡ written_of a.number limbs (length o) → ⊥
+  never_refused r e = let none : Err r ≡ Ok (length (line_of a.number limbs)) = e ∙ written_is in cc none
+
+  count_is_size : (n : ℕ) → Ok n ≡ written_of a.number limbs (length o) → n ≡ length (line_of a.number limbs)
+  count_is_size n e = let k : Ok n ≡ Ok (length (line_of a.number limbs)) = e ∙ written_is in ap (count_or n) k
+
+  pub count_fits : (n : ℕ) → Ok n ≡ written_of a.number limbs (length o) → n + report_size ≤ length o
   unfolding longest_answer
-  count_fits w e = omega (arith, number_fits s.number limbs formed, count_is_size w e)
+  count_fits n e = omega (arith, number_fits a.number limbs formed, count_is_size n e)
 
-  pub sum_told : (w : Written) (a b : List ℕ) (n : ℕ) → s.refusal.rule ≡ 0 → w ≡ written_of s.number limbs (length o) → a ≡ room_after s.number limbs o → Appends (report_line s) report_size w.count a b n
-      → Tells (sum_lines s limbs) o b n
-  unfolding sum_lines room_after accepted
-  sum_told w a b n z e f p =
-      let c : w.count ≡ length (line_of s.number limbs) = count_is_size w e in
-      let g : a ≡ onto (line_of s.number limbs) o = f ∙ simp is_written in
-      simp (eq-eqb s.refusal.rule 0 z)
-      (record {
-        count_is = p.0 ∙ simp (length-append, report_length s, c);
-        exit_is = p.1 (line_of s.number limbs) o (sym c) g;
-      })
+  pub sum_told : (count : ℕ) (b c : List ℕ) (n : ℕ) → Ok count ≡ written_of a.number limbs (length o) → b ≡ room_after a.number limbs o → Appends (report_line a.ternary s) report_size count b c n
+      → Tells (line_of a.number limbs ++ report_line a.ternary s) o c n
+  unfolding room_after left_by accepted
+  sum_told count b c n e f p =
+      let g : b ≡ onto (line_of a.number limbs) o = f ∙ rw is_written in
+      record {
+        count_is = p.0 ∙ simp (length-append, report_length a.ternary s, count_is_size count e);
+        exit_is = p.1 (line_of a.number limbs) o (sym (count_is_size count e)) g;
+      }
 
 -- no answer is longer than the longest
-pub sum_few : (s : Sum) (limbs : List ℕ) → (s.refusal.rule ≡ 0 → WellFormed (operand_of s.number limbs)) → length (sum_lines s limbs) ≤ longest_answer
-unfolding sum_lines longest_answer
-sum_few s limbs f = go (ℕ_discrete s.refusal.rule 0)
+pub sum_few : (s : Sum) (limbs : List ℕ) → IfOk s.answer (λ a. WellFormed (operand_of a.number limbs)) → length (sum_lines s limbs) ≤ longest_answer
+unfolding sum_lines longest_answer answer_lines
+sum_few s limbs f = go s.answer f
   where
-    go : Dec (s.refusal.rule ≡ 0) → length (cond (eqb s.refusal.rule 0) (line_of s.number limbs ++ report_line s) (refusal_line s.refusal)) ≤ longest_line + report_size
-    go (yes z) = simp (eq-eqb s.refusal.rule 0 z, length-append, report_length s) (omega (arith, number_fits s.number limbs (f z)))
-    go (no z) = simp (ne_eqb s.refusal.rule 0 z, refusal_length s.refusal) (omega (arith, refusal_fits))
+    go : (r : Result Rounded Refusal) → IfOk r (λ a. WellFormed (operand_of a.number limbs)) → length (answer_lines r s limbs) ≤ longest_line + report_size
+    go (Ok a) h = simp (length-append, report_length a.ternary s) (omega (arith, number_fits a.number limbs h))
+    go (Err r) h = simp (refusal_length r) (omega (arith, refusal_fits))

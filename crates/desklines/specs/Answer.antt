@@ -1,22 +1,27 @@
 -- What is printed for a group of three lines. Definitions only.
 -- Document 01, "The desk program".
-use Rattle.std.specs.Prelude.{ℕ, zero, suc, ◌+◌, ◌≡◌, cond, List, [], ◌∷◌, ◌++◌, ltb, eqb, ℤ, pos, negsuc, length}
+use Rattle.std.specs.Prelude.{ℕ, zero, suc, ◌+◌, ◌≡◌, cond, List, [], ◌∷◌, ◌++◌, ltb, ℤ, pos, negsuc, length, Result, Ok, Err}
 use Rattle.numbers.specs.Limits.{limbs_for}
 use Rattle.numbers.specs.Operand.{Operand}
 use Rattle.rounding.specs.Mode.{mode_of}
+use Rattle.checks.specs.declared.Rule.TheVariants.{LineSize}
+use Rattle.checks.specs.declared.Place.{Place}
+use Rattle.checks.specs.declared.Place.TheVariants.{First, Second}
 use Rattle.checks.specs.declared.Refusal.{Refusal}
+use Rattle.checks.specs.Refusal.{rule_number, place_number}
 use Rattle.checks.specs.Number.{operand_of}
-use Rattle.checks.specs.Check.{accepted, pair_refusal}
+use Rattle.checks.specs.Check.{accepted, then, pair_refusal}
 use Rattle.text.specs.Digits.{numeral}
 use Rattle.lines.specs.Line.{line_feed, line_of, longest_line}
 use Rattle.lines.specs.Reading.{number_in, limbs_read, read_refusal}
+use Rattle.reports.specs.declared.report.Rounded.{Rounded}
 use Rattle.reports.specs.declared.report.Sum.{Sum}
 use Rattle.reports.specs.Summed.{Reported}
-use Rattle.desklines.specs.Order.{order_refusal, order_of, operation_of}
+use Rattle.desklines.specs.Order.{order_refusal, request_in, operation_of}
 
 -- "A refusal prints one line: ee, number, place, a byte each"
 unfoldable pub refusal_line : Refusal → List ℕ
-refusal_line r = numeral 2 238 ++ numeral 2 r.rule ++ numeral 2 r.place ++ line_feed ∷ []
+refusal_line r = numeral 2 238 ++ numeral 2 (rule_number r.rule) ++ numeral 2 (place_number r.place) ++ line_feed ∷ []
 
 -- "ternary (00, 01, ff)"
 unfoldable pub ternary_byte : ℤ → ℕ
@@ -25,12 +30,16 @@ ternary_byte (pos (suc n)) = 1
 ternary_byte (negsuc n) = 255
 
 -- "ternary .., depth (two bytes), limbs of first, limbs of second (a byte each) as a line of its own"
-unfoldable pub report_line : Sum → List ℕ
-report_line s = numeral 2 (ternary_byte s.ternary) ++ numeral 4 s.depth ++ numeral 2 s.first ++ numeral 2 s.second ++ line_feed ∷ []
+unfoldable pub report_line : ℤ → Sum → List ℕ
+report_line ternary s = numeral 2 (ternary_byte ternary) ++ numeral 4 s.depth ++ numeral 2 s.first ++ numeral 2 s.second ++ line_feed ∷ []
 
 -- "It prints the result line, then .."; a sum that is refused by 6 or 7 prints its refusal
+unfoldable pub answer_lines : Result Rounded Refusal → Sum → List ℕ → List ℕ
+answer_lines (Ok a) s limbs = line_of a.number limbs ++ report_line a.ternary s
+answer_lines (Err r) s limbs = refusal_line r
+
 unfoldable pub sum_lines : Sum → List ℕ → List ℕ
-sum_lines s limbs = cond (eqb s.refusal.rule 0) (line_of s.number limbs ++ report_line s) (refusal_line s.refusal)
+sum_lines s limbs = answer_lines s.answer s limbs
 
 -- ---- what the lines hold, and what is refused of them
 
@@ -42,37 +51,34 @@ unfoldable pub operand_of_line : List ℕ → Operand
 operand_of_line line = operand_of (number_in line) (limbs_of_line line)
 
 -- "a fault in a number's line has that line's place"
-unfoldable pub placed : ℕ → Refusal → Refusal
-placed place r = cond (eqb r.rule 0) accepted (record { rule = r.rule; place = place })
+unfoldable pub placed : {A : Type 0} → Place → Result A Refusal → Result A Refusal
+placed place (Ok a) = Ok a
+placed place (Err r) = Err (record { rule = r.rule; place = place })
 
 -- "A line over 1,039 bytes is 8"; every other is read, into as many limbs as its precision takes
-unfoldable pub number_refusal : ℕ → List ℕ → Refusal
+unfoldable pub number_refusal : Place → List ℕ → Result (Unit {0}) Refusal
 number_refusal place line =
-    cond (ltb longest_line (length line)) (record { rule = 8; place = place })
+    cond (ltb longest_line (length line)) (Err (record { rule = LineSize; place = place }))
     (placed place (read_refusal (limbs_for (number_in line).precision) line))
 
--- the first of two refusals
-unfoldable pub earlier : Refusal → Refusal → Refusal
-earlier r s = cond (eqb r.rule 0) s r
-
--- "The desk line is checked .. after both numbers, before the sum"
-unfoldable pub lines_refusal : List ℕ → List ℕ → List ℕ → Refusal
-lines_refusal first second third = earlier (number_refusal 1 first) (earlier (number_refusal 2 second) (order_refusal third))
+-- "The desk line is checked .. after both numbers, before the sum": the first of them that refuses
+unfoldable pub lines_refusal : List ℕ → List ℕ → List ℕ → Result (Unit {0}) Refusal
+lines_refusal first second third = then (number_refusal First first) (then (number_refusal Second second) (order_refusal third))
 
 -- refusals 1 to 5 of the sum: of an accepted desk line's mode and precision
-unfoldable pub sum_refusal : List ℕ → List ℕ → List ℕ → Refusal
+unfoldable pub sum_refusal : List ℕ → List ℕ → List ℕ → Result (Unit {0}) Refusal
 sum_refusal first second third =
-    pair_refusal (order_of third).mode (operand_of_line first) (operand_of_line second) (order_of third).precision (limbs_for (order_of third).precision)
+    pair_refusal (request_in third).mode (operand_of_line first) (operand_of_line second) (request_in third).precision (limbs_for (request_in third).precision)
 
-unfoldable pub group_refusal : List ℕ → List ℕ → List ℕ → Refusal
-group_refusal first second third = earlier (lines_refusal first second third) (sum_refusal first second third)
+unfoldable pub group_refusal : List ℕ → List ℕ → List ℕ → Result (Unit {0}) Refusal
+group_refusal first second third = then (lines_refusal first second third) (sum_refusal first second third)
 
 -- ---- the answer
 
 -- the sum that a group asks for, with the limbs of its target
 abbrev pub SumOf : List ℕ → List ℕ → List ℕ → List ℕ → Sum → Type 0
 SumOf first second third limbs s =
-    Reported (operation_of (order_of third).subtracts) (mode_of (order_of third).mode) (order_of third).precision (operand_of_line first) (operand_of_line second) limbs s
+    Reported (operation_of (request_in third).operation) (mode_of (request_in third).mode) (request_in third).precision (operand_of_line first) (operand_of_line second) limbs s
 
 -- its lines are printed
 pub record SumTold (first second third told : List ℕ) : Type 0 where
@@ -83,7 +89,7 @@ pub record SumTold (first second third told : List ℕ) : Type 0 where
 
 -- what is printed: the refusal of the lines or of the sum's operands, or the sum
 pub record Answered (first second third told : List ℕ) : Type 0 where
-  pub refused : (group_refusal first second third ≡ accepted → ⊥) → told ≡ refusal_line (group_refusal first second third)
+  pub refused : (r : Refusal) → group_refusal first second third ≡ Err r → told ≡ refusal_line r
   pub summed : group_refusal first second third ≡ accepted → SumTold first second third told
 
 -- ternary value 2, depth 4, limbs 2 and 2, LF

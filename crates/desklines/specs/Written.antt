@@ -1,10 +1,11 @@
 -- What is written into a lent room. Definitions only.
 use Rattle.std.specs.Prelude.{ℕ, ◌+◌, ◌≤◌, ◌<◌, ◌≡◌, List, ◌++◌, length, take}
 use Rattle.checks.specs.declared.Number.{Number}
+use Rattle.checks.specs.declared.Place.{Place}
 use Rattle.checks.specs.declared.Refusal.{Refusal}
+use Rattle.checks.specs.Check.{accepted}
 use Rattle.lines.specs.Writing.{onto}
 use Rattle.numbers.specs.Limits.{most_precision, limbs_for}
-use Rattle.lines.specs.declared.Head.{Head}
 use Rattle.lines.specs.Reading.{number_in}
 use Rattle.desklines.specs.Answer.{Answered, refusal_line, longest_answer, limbs_of_line, number_refusal}
 
@@ -35,15 +36,15 @@ unfoldable pub most_limbs : ℕ
 most_limbs = limbs_for most_precision
 
 -- a number's line is read: the number, and its limbs at the start of the room
-pub record NumberRead (place : ℕ) (line exit : List ℕ) (r : Head) : Type 0 where
-  pub refusal : r.refusal ≡ number_refusal place line
-  pub number : r.refusal.rule ≡ 0 → r.number ≡ number_in line
-  pub few : r.refusal.rule ≡ 0 → limbs_for (number_in line).precision ≤ most_limbs
-  pub limbs : r.refusal.rule ≡ 0 → take (limbs_for (number_in line).precision) exit ≡ limbs_of_line line
+pub record NumberRead (place : Place) (line exit : List ℕ) (x : Number) : Type 0 where
+  pub refusal : number_refusal place line ≡ accepted
+  pub number : x ≡ number_in line
+  pub few : limbs_for (number_in line).precision ≤ most_limbs
+  pub limbs : take (limbs_for (number_in line).precision) exit ≡ limbs_of_line line
 
 -- a line's number, read and accepted
-pub record NumberHeld (place : ℕ) (line : List ℕ) (x : Number) (limbs : List ℕ) : Type 0 where
-  pub refusal : (number_refusal place line).rule ≡ 0
+pub record NumberHeld (place : Place) (line : List ℕ) (x : Number) (limbs : List ℕ) : Type 0 where
+  pub refusal : number_refusal place line ≡ accepted
   pub number : x ≡ number_in line
   pub limbs_are : limbs ≡ limbs_of_line line
 

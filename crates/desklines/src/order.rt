@@ -1,54 +1,66 @@
 // The desk line: the operation, the target's precision and the mode.
-ghost use Rattle.std.specs.Prelude.{◌≡◌, false};
-ghost use Rattle.desklines.specs.Order.{order_of};
+ghost use Rattle.std.specs.Prelude.{◌≡◌};
+ghost use Rattle.checks.specs.declared.Place.TheVariants.{Target};
+ghost use Rattle.desklines.specs.Order.{operation_in, order_of};
 
-use checks::Refusal;
+use checks::{Place, Refusal, Rule};
 use lines::field_at;
 
-// What a desk line asks; its refusal's rule is 0 where it is accepted.
+// What is done with the two numbers.
+#[derive(Clone, Copy, Debug, PartialEq, Eq)]
+pub enum Operation {
+    Add,
+    Subtract,
+}
+
+// What a desk line asks.
 #[derive(Clone, Copy)]
-pub struct Order {
-    pub subtracts: bool,
+pub struct Request {
+    pub operation: Operation,
     pub precision: u64,
     pub mode: u8,
-    pub refusal: Refusal,
 }
 
 // Eight digits and LF.
 const ORDER_SIZE: usize = 9;
 
-fn refused(rule: u8) -> Order
-    ensures { result ≡ record { subtracts = false; precision = 0; mode = 0; refusal = record { rule = rule; place = 3 } } }
+// A fault of the desk line.
+fn fault(rule: Rule) -> Refusal
+    ensures { result ≡ record { rule = rule; place = Target } }
 {
-    Order {
-        subtracts: false,
-        precision: 0,
-        mode: 0,
-        refusal: Refusal {
-            rule: rule,
-            place: 3,
-        },
+    Refusal {
+        rule,
+        place: Place::Target,
     }
 }
 
+// 1 subtracts.
+fn asked_operation(n: u64) -> Operation
+    ensures { result ≡ operation_in n }
+{
+    if n == 1 {
+        return Operation::Subtract;
+    }
+    Operation::Add
+}
+
 // 8, 9 and 11, in that order.
-pub fn read_order(line: &[u8]) -> Order
+pub fn read_order(line: &[u8]) -> Result<Request, Refusal>
     ensures { result ≡ order_of line.now }
 {
     if line.len() != ORDER_SIZE {
-        return refused(8);
+        return Err(fault(Rule::LineSize));
     }
     if !lines::digits_hold(line) {
-        return refused(9);
+        return Err(fault(Rule::LineByte));
     }
-    let operation = field_at(line, 0, 2);
-    if 1 < operation {
-        return refused(11);
+    let asked = field_at(line, 0, 2);
+    if 1 < asked {
+        return Err(fault(Rule::Operation));
     }
-    Order {
-        subtracts: operation == 1,
+    Ok(Request {
+        operation: asked_operation(asked),
         precision: field_at(line, 2, 4),
         mode: field_at(line, 6, 2) as u8,
-        refusal: Refusal { rule: 0, place: 0 },
-    }
+    })
 }

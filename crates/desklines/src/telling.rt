@@ -1,14 +1,14 @@
 // The lines that are printed, each from a place of the output on.
-ghost use Rattle.std.specs.Prelude.{◌≡◌, ◌+◌, ◌≤◌, ◌<◌, ◌∷◌, [], length};
+ghost use Rattle.std.specs.Prelude.{◌≡◌, ◌+◌, ◌≤◌, ◌<◌, ◌∷◌, ◌++◌, [], length, IfOk};
 ghost use Rattle.text.specs.Digits.{numeral};
-ghost use Rattle.lines.specs.Line.{line_feed};
+ghost use Rattle.lines.specs.Line.{line_feed, line_of};
 ghost use Rattle.desklines.specs.Answer.{refusal_line, ternary_byte, report_line, sum_lines, report_size, longest_answer};
 ghost use Rattle.numbers.specs.Operand.{WellFormed};
 ghost use Rattle.checks.specs.Number.{operand_of};
 ghost use Rattle.desklines.specs.Written.{Tells, Appends, Refuses};
 
 use checks::Refusal;
-use reports::Sum;
+use reports::{Rounded, Sum};
 
 // Ternary value, depth and limbs used, in hexadecimal, with LF.
 const REPORT: usize = 11;
@@ -22,7 +22,8 @@ pub fn longest_answer() -> usize
     LONGEST_ANSWER
 }
 
-// The last n digits of a value.
+// The last n digits of a value; where the next part begins. The place stands beside the room, since a value of both would have
+// to say in each clause that it still lends that room.
 fn put(out: &mut [u8], at: usize, n: usize, value: u64) -> usize
     requires { at + n ≤ length out.old }
     ensures { Appends (numeral n value) n at out.old out.new result }
@@ -47,8 +48,8 @@ pub fn put_refusal(refusal: Refusal, out: &mut [u8]) -> usize
     ensures { Tells (refusal_line refusal) out.old out.new result }
 {
     let a = put(out, 0, 2, 238);
-    let b = put(out, a, 2, refusal.rule as u64);
-    let c = put(out, b, 2, refusal.place as u64);
+    let b = put(out, a, 2, refusal.rule.number() as u64);
+    let c = put(out, b, 2, refusal.place.number() as u64);
     put_end(out, c)
 }
 
@@ -66,29 +67,37 @@ fn ternary_byte(t: i8) -> u64
 }
 
 // The line below a result.
-fn put_report(s: Sum, out: &mut [u8], at: usize) -> usize
+fn put_report(s: Sum, rounded: Rounded, out: &mut [u8], at: usize) -> usize
     requires { at + report_size ≤ length out.old }
-    ensures { Appends (report_line s) report_size at out.old out.new result }
+    ensures { Appends (report_line rounded.ternary s) report_size at out.old out.new result }
 {
-    let a = put(out, at, 2, ternary_byte(s.ternary));
+    let a = put(out, at, 2, ternary_byte(rounded.ternary));
     let b = put(out, a, 4, s.depth);
     let c = put(out, b, 2, s.first);
     let d = put(out, c, 2, s.second);
     put_end(out, d)
 }
 
+// A result with its report: what is of good form the writer accepts.
+fn put_result(s: Sum, rounded: Rounded, limbs: &[u64], out: &mut [u8]) -> usize
+    requires { (longest_answer ≤ length out.old) × WellFormed (operand_of rounded.number limbs.now) }
+    ensures { Tells (line_of rounded.number limbs.now ++ report_line rounded.ternary s) out.old out.new result }
+{
+    match writer::write_line(rounded.number, limbs, out) {
+        Ok(count) => put_report(s, rounded, out, count),
+        Err(refusal) => put_refusal(refusal, out),
+    }
+}
+
 // A result with its report, or its refusal.
 pub fn put_sum(s: Sum, limbs: &[u64], out: &mut [u8]) -> usize
-    requires { (longest_answer ≤ length out.old) × (s.refusal.rule ≡ 0 → WellFormed (operand_of s.number limbs.now)) }
+    requires { (longest_answer ≤ length out.old) × IfOk s.answer (λ a. WellFormed (operand_of a.number limbs.now)) }
     ensures { Tells (sum_lines s limbs.now) out.old out.new result }
 {
-    let refusal = s.refusal;
-    if refusal.rule != 0 {
-        return put_refusal(refusal, out);
+    match s.answer {
+        Ok(rounded) => put_result(s, rounded, limbs, out),
+        Err(refusal) => put_refusal(refusal, out),
     }
-    let number = s.number;
-    let written = writer::write_line(number, limbs, out);
-    put_report(s, out, written.count)
 }
 
 // A refusal's line alone; nothing where the room is too short.

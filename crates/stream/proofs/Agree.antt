@@ -9,8 +9,10 @@ use lib.ListN.{length, take}
 use lib.Seq.{length-take-le}
 use Rattle.limb.proofs.Tests.{true_false}
 use Rattle.checks.specs.Check.{accepted}
+use Rattle.std.specs.Prelude.{Result, Ok, Err}
+use Rattle.checks.specs.declared.Refusal.{Refusal}
 use Rattle.reports.specs.declared.report.Sum.{Sum}
-use Rattle.reports.proofs.Agree.{accepted_or, reported_unique}
+use Rattle.reports.proofs.Agree.{reported_unique}
 use Rattle.lines.specs.Writing.{onto}
 use Rattle.desklines.specs.Answer.{sum_lines, group_refusal, Answered, longest_answer}
 use Rattle.desklines.specs.Written.{Answers}
@@ -23,11 +25,12 @@ use Rattle.stream.proofs.Printing.{ended_printed}
 use Rattle.stream.proofs.Pieces.{onto_as_long}
 
 pub answered_unique : (a b c o p : List ℕ) → Answered a b c o → Answered a b c p → o ≡ p
-answered_unique a b c o p x y = go (accepted_or (group_refusal a b c))
+unfolding accepted
+answered_unique a b c o p x y = go (group_refusal a b c) refl
   where
-    go : Dec (group_refusal a b c ≡ accepted) → o ≡ p
-    go (no n) = x.refused n ∙ sym (y.refused n)
-    go (yes e) =
+    go : (r : Result (Unit {0}) Refusal) → group_refusal a b c ≡ r → o ≡ p
+    go (Err r) e = x.refused r e ∙ sym (y.refused r e)
+    go (Ok u) e =
         let s = x.summed e in
         let t = y.summed e in
         let u = reported_unique _ _ _ _ _ s.sum t.sum s.limbs t.limbs s.summed t.summed in

@@ -10,48 +10,60 @@ use Rattle.numbers.specs.Limits.{least_precision, most_precision, bias, counted,
 use Rattle.numbers.specs.Operand.{spare_bits}
 use Rattle.rounding.specs.Mode.{mode_of}
 use Rattle.depth.specs.Depth.{plus, minus}
+use Rattle.checks.specs.declared.Rule.{Rule}
+use Rattle.checks.specs.declared.Rule.TheVariants as rules
+use Rattle.checks.specs.declared.Place.{Place}
+use Rattle.checks.specs.declared.Place.TheVariants.{Call, First, Second, Target}
 use Rattle.checks.specs.declared.Refusal.{Refusal}
+use Rattle.checks.specs.Refusal.{rule_number, place_number}
 use Rattle.checks.specs.declared.Kind.TheVariants.{Regular}
 use Rattle.checks.specs.Number.{is_zero_kind, operand_of}
-use Rattle.checks.specs.Check.{accepted, first_refusal, mode_holds, precision_holds, length_holds, exponent_holds, top_bit_holds, spare_bits_hold, form_holds, pair_refusal}
+use Rattle.checks.specs.Check.{accepted, answered, first_refusal, mode_holds, precision_holds, length_holds, exponent_holds, top_bit_holds, spare_bits_hold, form_holds, pair_refusal}
 use Rattle.text.specs.Digits.{digit_of, all_digits, glyph_of, worth, numeral}
 use Rattle.text.proofs.Bytes.{bytes}
 use Rattle.lines.specs.Line.{kind_byte, twos_complement, head_digits, limb_digits, line_feed, line_of, shortest_line, line_size, longest_line}
 use Rattle.lines.specs.Reading.{field, kind_in, signed_of, negative_of, kind_of, number_in, limbs_in, operand_in, digits_hold, head_tests, limb_tests, read_refusal, limbs_read}
+use Rattle.reports.specs.declared.report.Rounded.{Rounded}
 use Rattle.reports.specs.declared.report.Sum.{Sum}
 use Rattle.sums.proofs.Examples.{case_reported}
-use Rattle.desklines.specs.declared.order.Order.{Order}
-use Rattle.desklines.specs.Order.{order_size, order_refusal, operation_of, order_of}
-use Rattle.desklines.specs.Answer.{refusal_line, ternary_byte, report_line, sum_lines, limbs_of_line, operand_of_line, placed, number_refusal, earlier, lines_refusal, sum_refusal, group_refusal, Answered}
+use Rattle.std.specs.Prelude.{Result, Ok, Err}
+use Rattle.desklines.specs.declared.order.Operation.{Operation as Asked}
+use Rattle.desklines.specs.declared.order.Operation.TheVariants.{Add, Subtract}
+use Rattle.desklines.specs.declared.order.Request.{Request}
+use Rattle.desklines.specs.Order.{order_size, order_refusal, operation_in, request_in, operation_of, order_of}
+use Rattle.desklines.specs.Answer.{refusal_line, ternary_byte, report_line, answer_lines, sum_lines, limbs_of_line, operand_of_line, placed, number_refusal, lines_refusal, sum_refusal, group_refusal, Answered}
 use Rattle.cutting.specs.Lines.{ends_line, before, lines_of, line_room, cut_line}
 use Rattle.stream.specs.Desk.{Printed, nothing, no_second, no_third, group, Desk, cut_short}
 
-abbrev at : ℕ → ℕ → Refusal
-at n place = record { rule = n; place = place }
+abbrev at : Rule → Place → Refusal
+at rule place = record { rule = rule; place = place }
+
+abbrev bars : Rule → Place → Result (Unit {0}) Refusal
+bars rule place = Err (at rule place)
 
 -- ---- the desk line
 
-abbrev asks : Bool → ℕ → ℕ → Refusal → Order
-asks subtracts p mode r = record { subtracts = subtracts; precision = p; mode = mode; refusal = r }
+abbrev asks : Asked → ℕ → ℕ → Result Request Refusal
+asks operation p mode = Ok (record { operation = operation; precision = p; mode = mode })
 
 -- what it asks: add and subtract, the precision in two bytes, the mode last
 pub orders_read :
-    (map (λ (line : String). order_of (bytes line)) ("00000400\n" ∷ "01100003\n" ∷ []) ≡ asks false 4 0 (at 0 0) ∷ asks true 4096 3 (at 0 0) ∷ [])
-    × (map operation_of (false ∷ true ∷ []) ≡ plus ∷ minus ∷ [])
-unfolding bytes order_of operation_of order_refusal order_size first_refusal accepted field digits_hold all_digits digit_of worth line_feed
+    (map (λ (line : String). order_of (bytes line)) ("00000400\n" ∷ "01100003\n" ∷ []) ≡ asks Add 4 0 ∷ asks Subtract 4096 3 ∷ [])
+    × (map operation_of (Add ∷ Subtract ∷ []) ≡ plus ∷ minus ∷ [])
+unfolding bytes order_of answered request_in operation_in operation_of order_refusal order_size first_refusal accepted field digits_hold all_digits digit_of worth line_feed
 orders_read = (refl, refl)
 
 -- its refusals, one fault fewer each: the size, a byte that is no digit, a last byte that is no LF, the operation; a mode and a precision are judged later
 pub orders_in_order :
     map (λ (line : String). order_refusal (bytes line)) ("0200G40" ∷ "02000400" ∷ "0200040000\n" ∷ "0200G400\n" ∷ "020004000" ∷ "02000400\n" ∷ "00000009\n" ∷ [])
-    ≡ at 8 3 ∷ at 8 3 ∷ at 8 3 ∷ at 9 3 ∷ at 9 3 ∷ at 11 3 ∷ at 0 0 ∷ []
+    ≡ bars rules.LineSize Target ∷ bars rules.LineSize Target ∷ bars rules.LineSize Target ∷ bars rules.LineByte Target ∷ bars rules.LineByte Target ∷ bars rules.Operation Target ∷ accepted ∷ []
 unfolding bytes order_refusal order_size first_refusal accepted field digits_hold all_digits digit_of worth line_feed
 orders_in_order = refl
 
 -- ---- what is printed
 
-pub refusals_printed : map refusal_line (at 8 2 ∷ at 12 0 ∷ []) ≡ bytes "ee0802\n" ∷ bytes "ee0c00\n" ∷ []
-unfolding bytes refusal_line numeral glyph_of line_feed
+pub refusals_printed : map refusal_line (at rules.LineSize Second ∷ at rules.DoubleTooLarge Call ∷ []) ≡ bytes "ee0802\n" ∷ bytes "ee0c00\n" ∷ []
+unfolding bytes refusal_line rule_number place_number numeral glyph_of line_feed
 refusals_printed = refl
 
 pub ternaries_printed : map ternary_byte (negsuc 0 ∷ pos 0 ∷ pos 1 ∷ []) ≡ 0xff ∷ 0 ∷ 1 ∷ []
@@ -59,19 +71,22 @@ unfolding ternary_byte
 ternaries_printed = refl
 
 -- a sum's two lines, depth 258 and limbs 3 and 4; and one that is refused
-abbrev told : ℤ → Refusal → Sum
-told t r = record { number = record { negative = true; kind = Regular; precision = 4; exponent = pos 1 }; ternary = t; depth = 258; first = 3; second = 4; refusal = r }
+abbrev told : Result Rounded Refusal → Sum
+told answer = record { depth = 258; first = 3; answer = answer; second = 4 }
+
+abbrev rounded : Rounded
+rounded = record { number = record { negative = true; kind = Regular; precision = 4; exponent = pos 1 }; ternary = pos 1 }
 
 pub sums_printed :
-    (sum_lines (told (pos 1) (at 0 0)) (2 ^ 63 ∷ []) ≡ bytes "010004000000018000000000000000\n0101020304\n")
-    × (sum_lines (told (pos 1) (at 7 3)) (2 ^ 63 ∷ []) ≡ bytes "ee0703\n")
-unfolding bytes sum_lines report_line refusal_line ternary_byte line_of head_digits limb_digits line_feed kind_byte twos_complement numeral glyph_of is_zero_kind
+    (sum_lines (told (Ok rounded)) (2 ^ 63 ∷ []) ≡ bytes "010004000000018000000000000000\n0101020304\n")
+    × (sum_lines (told (Err (at rules.TooSmall Target))) (2 ^ 63 ∷ []) ≡ bytes "ee0703\n")
+unfolding bytes sum_lines answer_lines report_line refusal_line rule_number place_number ternary_byte line_of head_digits limb_digits line_feed kind_byte twos_complement numeral glyph_of is_zero_kind
 sums_printed = (refl, refl)
 
 -- ---- the order of a group's refusals
 
 -- the first line, the second, the desk line, the mode, the target's precision; a fault in a line has that line's place
-abbrev refusal_of : String → String → String → Refusal
+abbrev refusal_of : String → String → String → Result (Unit {0}) Refusal
 refusal_of a b c = group_refusal (bytes a) (bytes b) (bytes c)
 
 pub groups_in_order :
@@ -83,8 +98,8 @@ pub groups_in_order :
     ∷ refusal_of "02000200000000\n" "03000200000000\n" "00000103\n"
     ∷ refusal_of "02000200000000\n" "03000200000000\n" "00000203\n"
     ∷ []
-    ≡ at 10 1 ∷ at 8 2 ∷ at 4 2 ∷ at 11 3 ∷ at 1 0 ∷ at 2 3 ∷ at 0 0 ∷ []
-unfolding bytes group_refusal lines_refusal sum_refusal earlier placed number_refusal order_refusal order_of order_size longest_line read_refusal head_tests limb_tests number_in operand_in operand_of_line limbs_of_line limbs_read limbs_in field kind_in signed_of negative_of kind_of digits_hold all_digits digit_of worth line_feed shortest_line line_size pair_refusal first_refusal accepted mode_holds precision_holds length_holds exponent_holds form_holds operand_of is_zero_kind counted bias least_precision most_precision least_exponent most_exponent limbs_for spare_bits
+    ≡ bars rules.LineKind First ∷ bars rules.LineSize Second ∷ bars rules.Exponent Second ∷ bars rules.Operation Target ∷ bars rules.Mode Call ∷ bars rules.Precision Target ∷ accepted ∷ []
+unfolding bytes group_refusal lines_refusal sum_refusal placed number_refusal order_refusal order_of answered request_in operation_in order_size longest_line read_refusal head_tests limb_tests number_in operand_in operand_of_line limbs_of_line limbs_read limbs_in field kind_in signed_of negative_of kind_of digits_hold all_digits digit_of worth line_feed shortest_line line_size pair_refusal first_refusal accepted mode_holds precision_holds length_holds exponent_holds form_holds operand_of is_zero_kind counted bias least_precision most_precision least_exponent most_exponent limbs_for spare_bits
 groups_in_order = refl
 
 -- ---- the longest line
@@ -94,18 +109,18 @@ abbrev longest : List ℕ
 longest = bytes "001000000000008" ++ replicate 1023 48 ++ bytes "\n"
 
 -- it is read; a line of 1,040 bytes is 8 at its place, whatever stands in it
-pub longest_lines : (length longest ≡ 1039) × (number_refusal 2 longest ≡ at 0 0) × (number_refusal 2 (replicate 1040 48) ≡ at 8 2)
+pub longest_lines : (length longest ≡ 1039) × (number_refusal 2 longest ≡ accepted) × (number_refusal 2 (replicate 1040 48) ≡ bars rules.LineSize Second)
 unfolding bytes placed number_refusal longest_line read_refusal head_tests limb_tests number_in operand_in limbs_in field kind_in signed_of negative_of kind_of digits_hold all_digits digit_of worth line_feed shortest_line line_size first_refusal accepted precision_holds length_holds exponent_holds form_holds top_bit_holds spare_bits_hold operand_of is_zero_kind counted bias least_precision most_precision least_exponent most_exponent limbs_for spare_bits
 longest_lines = (refl, refl, refl)
 
 -- ---- document 01's case, whole
 
 pub case_whole : (out : List ℕ) → Answered (bytes "000004000000018000000000000000\n") (bytes "000002fffffffc8000000000000000\n") (bytes "00000400\n") out → out ≡ bytes "000004000000018000000000000000\nff00010101\n"
-unfolding bytes group_refusal lines_refusal sum_refusal earlier placed number_refusal order_refusal order_of operation_of mode_of order_size longest_line read_refusal head_tests limb_tests number_in operand_in operand_of_line limbs_of_line limbs_read limbs_in field kind_in signed_of negative_of kind_of digits_hold all_digits digit_of worth line_feed shortest_line line_size pair_refusal first_refusal accepted mode_holds precision_holds length_holds exponent_holds form_holds top_bit_holds spare_bits_hold operand_of is_zero_kind counted bias least_precision most_precision least_exponent most_exponent limbs_for spare_bits sum_lines report_line ternary_byte line_of head_digits limb_digits kind_byte twos_complement numeral glyph_of
+unfolding bytes group_refusal lines_refusal sum_refusal placed number_refusal order_refusal order_of answered request_in operation_in operation_of mode_of order_size longest_line read_refusal head_tests limb_tests number_in operand_in operand_of_line limbs_of_line limbs_read limbs_in field kind_in signed_of negative_of kind_of digits_hold all_digits digit_of worth line_feed shortest_line line_size pair_refusal first_refusal accepted mode_holds precision_holds length_holds exponent_holds form_holds top_bit_holds spare_bits_hold operand_of is_zero_kind counted bias least_precision most_precision least_exponent most_exponent limbs_for spare_bits sum_lines answer_lines report_line ternary_byte line_of head_digits limb_digits kind_byte twos_complement numeral glyph_of
 case_whole out h =
     let t = h.summed refl in
     let c = case_reported t.limbs t.sum t.summed in
-    t.told_is ∙ ap (λ (s : Sum). sum_lines s t.limbs) c.0 ∙ ap (sum_lines (record { number = record { negative = false; kind = Regular; precision = 4; exponent = pos 1 }; ternary = negsuc 0; depth = 1; first = 1; second = 1; refusal = at 0 0 })) c.1
+    t.told_is ∙ ap (λ (s : Sum). sum_lines s t.limbs) c.0 ∙ ap (sum_lines (record { depth = 1; first = 1; answer = Ok (record { number = record { negative = false; kind = Regular; precision = 4; exponent = pos 1 }; ternary = negsuc 0 }); second = 1 })) c.1
 
 -- ---- an input, cut into lines
 
@@ -132,11 +147,11 @@ unfolding bytes lines_of
 printed_empty = nothing
 
 pub printed_one_line : Desk (bytes "no number\n") (bytes "ee0802\n")
-unfolding bytes lines_of before ends_line line_feed cut_short refusal_line numeral glyph_of
+unfolding bytes lines_of before ends_line line_feed cut_short refusal_line rule_number place_number numeral glyph_of
 printed_one_line = no_second (bytes "no number\n")
 
 pub printed_two_lines : Desk (bytes "\n02000200000000") (bytes "ee0803\n")
-unfolding bytes lines_of before ends_line line_feed cut_short refusal_line numeral glyph_of
+unfolding bytes lines_of before ends_line line_feed cut_short refusal_line rule_number place_number numeral glyph_of
 printed_two_lines = no_third (bytes "\n") (bytes "02000200000000")
 
 -- what is printed for three lines is their group's answer

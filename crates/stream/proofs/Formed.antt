@@ -24,6 +24,7 @@ use Rattle.depth.specs.Depth.{Operation, plus, minus, result}
 use Rattle.checks.specs.Number.{is_zero_kind, operand_of}
 use Rattle.checks.proofs.Signed.{counted_exponent_of}
 use Rattle.place.specs.Placed.{limbs_after}
+use Rattle.std.specs.Prelude.{IfOk}
 use Rattle.reports.specs.declared.report.Sum.{Sum}
 use Rattle.reports.specs.Summed.{sum_of, refused_sum, Reported}
 
@@ -81,9 +82,9 @@ module _ (p : ℕ) (least : least_precision ≤ p) (most : p ≤ most_precision)
   some : 0 < p
   some = omega (arith, two_digits, least)
 
-  formed_at : (a : Answer) (k i j : ℕ) → ((t : Bool) (e d : ℕ) (r : Ordering) → a ≡ number t e d r → Normal p e d) → (sum_of a p k i j).refusal.rule ≡ 0 → WellFormed (operand_of (sum_of a p k i j).number (limbs_after p a))
+  formed_at : (a : Answer) (k i j : ℕ) → ((t : Bool) (e d : ℕ) (r : Ordering) → a ≡ number t e d r → Normal p e d) → IfOk (sum_of a p k i j).answer (λ b. WellFormed (operand_of b.number (limbs_after p a)))
   unfolding sum_of refused_sum limbs_after operand_of is_zero_kind counted
-  formed_at (zero_of n) k i j h z = record {
+  formed_at (zero_of n) k i j h = record {
     least = least;
     most = most;
     count = length-replicate (limbs_for p) 0;
@@ -91,7 +92,7 @@ module _ (p : ℕ) (least : least_precision ≤ p) (most : p ≤ most_precision)
     zero = λ e. omega arith;
     regular = λ e. let q : ◌≡◌ {A = ℕ} 0 1 = cc in absurd (omega arith);
   }
-  formed_at (number t e d r) k i j h z =
+  formed_at (number t e d r) k i j h =
       let q = h t e d r refl in
       let v = worth p d some q.lead q.few in
       record {
@@ -107,10 +108,10 @@ module _ (p : ℕ) (least : least_precision ≤ p) (most : p ≤ most_precision)
           spare = rw v (mul-mod_left d (2 ^ spare_bits p));
         };
       }
-  formed_at too_large k i j h z = let o : ◌≡◌ {A = ℕ} 6 0 = z in absurd (omega arith)
-  formed_at too_small k i j h z = let o : ◌≡◌ {A = ℕ} 7 0 = z in absurd (omega arith)
+  formed_at too_large k i j h = tt
+  formed_at too_small k i j h = tt
 
-  pub reported_formed : (f : Operation) (o : Mode) (x y : Operand) (exit : List ℕ) (s : Sum) → Reported f o p x y exit s → s.refusal.rule ≡ 0 → WellFormed (operand_of s.number exit)
-  reported_formed f o x y exit s r z =
+  pub reported_formed : (f : Operation) (o : Mode) (x y : Operand) (exit : List ℕ) (s : Sum) → Reported f o p x y exit s → IfOk s.answer (λ b. WellFormed (operand_of b.number exit))
+  reported_formed f o x y exit s r =
       rw (r.answer, r.target)
-      (formed_at (result f o p x y) s.depth _ _ (λ t e d w h. result_normal f o p x y t e d w some h) (ap (λ (q : Sum). q.refusal.rule) (sym r.answer) ∙ z))
+      (formed_at (result f o p x y) s.depth _ _ (λ t e d w h. result_normal f o p x y t e d w some h))

@@ -12,6 +12,7 @@ use lib.Seq.{take_at, take-append-add, drop_at, drop-drop, length-take-le}
 use Rattle.limb.proofs.Tests.{both_true, true_false}
 use Rattle.parts.proofs.Parts.{part_is, put_is}
 use Rattle.lines.specs.Writing.{onto}
+use Rattle.checks.specs.declared.Place.TheVariants.{Second, Target}
 use Rattle.desklines.specs.Answer.{Answered, longest_answer}
 use Rattle.desklines.specs.Written.{Answers, Tells}
 use Rattle.stream.specs.declared.serving.Served.{Served}
@@ -339,24 +340,24 @@ module _ (s : State) (out exit : List ℕ) (n : ℕ) where
     unfolding group_of group_in onto
     finish_nothing l f z e = finish_told [] (record { count_is = z; exit_is = e }) (nothing l (no_byte s.held.first s.first f))
 
-    pub finish_one : s.held.lines ≡ 0 → (s.held.first ≡ 0 → ⊥) → Tells (cut_short 2) out exit n → Finished s out exit n
+    pub finish_one : s.held.lines ≡ 0 → (s.held.first ≡ 0 → ⊥) → Tells (cut_short Second) out exit n → Finished s out exit n
     unfolding group_of group_in
-    finish_one l f t = finish_told (cut_short 2) t (one_line l (some_byte s.held.first s.first f rooms.first))
+    finish_one l f t = finish_told (cut_short Second) t (one_line l (some_byte s.held.first s.first f rooms.first))
 
-    pub finish_only_one : s.held.lines ≡ 1 → s.held.second ≡ 0 → Tells (cut_short 2) out exit n → Finished s out exit n
+    pub finish_only_one : s.held.lines ≡ 1 → s.held.second ≡ 0 → Tells (cut_short Second) out exit n → Finished s out exit n
     unfolding group_of group_in
-    finish_only_one l f t = finish_told (cut_short 2) t (only_one l (no_byte s.held.second s.second f))
+    finish_only_one l f t = finish_told (cut_short Second) t (only_one l (no_byte s.held.second s.second f))
 
-    pub finish_two : s.held.lines ≡ 1 → (s.held.second ≡ 0 → ⊥) → Tells (cut_short 3) out exit n → Finished s out exit n
+    pub finish_two : s.held.lines ≡ 1 → (s.held.second ≡ 0 → ⊥) → Tells (cut_short Target) out exit n → Finished s out exit n
     unfolding group_of group_in
-    finish_two l f t = finish_told (cut_short 3) t (two_lines l (some_byte s.held.second s.second f rooms.second))
+    finish_two l f t = finish_told (cut_short Target) t (two_lines l (some_byte s.held.second s.second f rooms.second))
 
     two_lines_lem : (s.held.lines ≡ 0 → ⊥) → (s.held.lines ≡ 1 → ⊥) → s.held.lines ≡ 2
     two_lines_lem a b = omega (arith, (is_ready_lem s out r).few)
 
-    pub finish_only_two : (s.held.lines ≡ 0 → ⊥) → (s.held.lines ≡ 1 → ⊥) → s.held.third ≡ 0 → Tells (cut_short 3) out exit n → Finished s out exit n
+    pub finish_only_two : (s.held.lines ≡ 0 → ⊥) → (s.held.lines ≡ 1 → ⊥) → s.held.third ≡ 0 → Tells (cut_short Target) out exit n → Finished s out exit n
     unfolding group_of group_in
-    finish_only_two a b f t = finish_told (cut_short 3) t (only_two (two_lines_lem a b) (no_byte s.held.third s.third f))
+    finish_only_two a b f t = finish_told (cut_short Target) t (only_two (two_lines_lem a b) (no_byte s.held.third s.third f))
 
     pub finish_three : (s.held.lines ≡ 0 → ⊥) → (s.held.lines ≡ 1 → ⊥) → (s.held.third ≡ 0 → ⊥)
         → Answers (take s.held.first s.first) (take s.held.second s.second) (take s.held.third s.third) out exit n → Finished s out exit n

@@ -1,6 +1,7 @@
 -- Pieces of the input taken one after the other, and what is printed meanwhile. Definitions only.
 use Rattle.std.specs.Prelude.{ℕ, ◌+◌, ◌-◌, ◌≤◌, ◌<◌, ◌≡◌, Bool, true, false, ◌&&◌, List, [], ◌++◌, ltb, leb, eqb, length, take, drop}
 use Rattle.lines.specs.Writing.{onto}
+use Rattle.checks.specs.declared.Place.TheVariants.{Second, Target}
 use Rattle.desklines.specs.Answer.{Answered, longest_answer}
 use Rattle.cutting.specs.declared.Lines.{Lines}
 use Rattle.cutting.specs.Held.{counts_in}
@@ -45,10 +46,10 @@ pub data Serves : ℕ → State → List ℕ → ℕ → List ℕ → State → 
 -- what is printed at the end of the input: a line that is under way counts, if it has a byte
 pub data Ends : Group → List ℕ → Type 0 where
   nothing : {g : Group} → g.lines ≡ 0 → g.first ≡ [] → Ends g []
-  one_line : {g : Group} → g.lines ≡ 0 → (g.first ≡ [] → ⊥) → Ends g (cut_short 2)
-  only_one : {g : Group} → g.lines ≡ 1 → g.second ≡ [] → Ends g (cut_short 2)
-  two_lines : {g : Group} → g.lines ≡ 1 → (g.second ≡ [] → ⊥) → Ends g (cut_short 3)
-  only_two : {g : Group} → g.lines ≡ 2 → g.third ≡ [] → Ends g (cut_short 3)
+  one_line : {g : Group} → g.lines ≡ 0 → (g.first ≡ [] → ⊥) → Ends g (cut_short Second)
+  only_one : {g : Group} → g.lines ≡ 1 → g.second ≡ [] → Ends g (cut_short Second)
+  two_lines : {g : Group} → g.lines ≡ 1 → (g.second ≡ [] → ⊥) → Ends g (cut_short Target)
+  only_two : {g : Group} → g.lines ≡ 2 → g.third ≡ [] → Ends g (cut_short Target)
   three_lines : {g : Group} {told : List ℕ} → g.lines ≡ 2 → (g.third ≡ [] → ⊥) → Answered g.first g.second g.third told → Ends g told
 
 -- a run of the program from a state on, however the input is split into pieces and the pieces are taken: all that comes, and all that is printed

@@ -7,7 +7,7 @@ ghost use Rattle.stream.specs.Desk.{cut_short};
 ghost use Rattle.stream.specs.Serving.{state_of, is_ready, ServedBy, Finished};
 
 use crate::answering::answer;
-use checks::Refusal;
+use checks::{Place, Refusal, Rule};
 use cutting::{Lines, line_room};
 
 // How many bytes of a piece were taken, and how many bytes were printed.
@@ -85,13 +85,13 @@ pub fn serve(lines: &mut Lines, bytes: &[u8], out: &mut [u8]) -> Served
 }
 
 // A group that the input cuts short: 8 at its first missing line.
-fn cut_short(missing: u8, out: &mut [u8]) -> usize
+fn cut_short(missing: Place, out: &mut [u8]) -> usize
     requires { longest_answer ≤ length out.old }
     ensures { Tells (cut_short missing) out.old out.new result }
 {
     desklines::refuse(
         Refusal {
-            rule: 8,
+            rule: Rule::LineSize,
             place: missing,
         },
         out,
@@ -109,16 +109,16 @@ pub fn finish(lines: &Lines, out: &mut [u8]) -> usize
         if lines.first.held == 0 {
             return 0;
         }
-        return cut_short(2, out);
+        return cut_short(Place::Second, out);
     }
     if lines.whole == 1 {
         if lines.second.held == 0 {
-            return cut_short(2, out);
+            return cut_short(Place::Second, out);
         }
-        return cut_short(3, out);
+        return cut_short(Place::Target, out);
     }
     if lines.third.held == 0 {
-        return cut_short(3, out);
+        return cut_short(Place::Target, out);
     }
     answer_held(lines, out)
 }

@@ -18,4 +18,4 @@ put_end-requires c = omega (arith, refusal_fits, c.put-c.ensures.0, c.put-c.auto
 pub returns : goal.returns
 returns c =
     let g = c.args in
-    refusal_told g.refusal g.out.now _ _ _ _ _ _ _ _ c.put-a.ensures c.put-b.ensures c.put-c.ensures c.put_end.ensures
+    refusal_told g.refusal g.out.now _ _ _ _ _ _ _ _ _ _ c.number.ensures c.number-2.ensures c.put-a.ensures c.put-b.ensures c.put-c.ensures c.put_end.ensures

@@ -24,5 +24,5 @@ put_end-requires c = omega (arith, report_is, c.put-d.ensures.0, c.put-d.auto.ou
 pub returns : goal.returns
 returns c =
     let g = c.args in
-    let f : SFits w8 g.s.ternary = record { sfits = c.struct_told-1.given.1.1.1.0.1 } in
-    report_told g.s g.at _ g.out.now _ _ _ _ _ _ _ _ _ _ (rw (to_z-of_z f) at c.ternary_byte.ensures) c.put-a.ensures c.put-b.ensures c.put-c.ensures c.put-d.ensures c.put_end.ensures
+    let f : SFits w8 g.rounded.ternary = record { sfits = c.struct_told-1.given.1.0.1 } in
+    report_told g.s g.rounded.ternary g.at _ g.out.now _ _ _ _ _ _ _ _ _ _ (rw (to_z-of_z f) at c.ternary_byte.ensures) c.put-a.ensures c.put-b.ensures c.put-c.ensures c.put-d.ensures c.put_end.ensures

@@ -1,9 +1,11 @@
 -- `stream::sum`: by the operation. Assumes nothing.
-use Rattle.stream.proofs.Groups.{operation_minus, operation_plus}
+use Rattle.desklines.specs.Order.{operation_of}
 use Rattle.stream.proofs.answering.sum.Goals as goal
 
-pub returns-then-order : goal.returns-then-order
-returns-then-order c = rw (operation_minus c.args.order.subtracts c.if-order.true) c.subtract.ensures
+pub returns-in-Add : goal.returns-in-Add
+unfolding operation_of
+returns-in-Add c = rw c.in-Add.is c.add.ensures
 
-pub returns : goal.returns
-returns c = rw (operation_plus c.args.order.subtracts c.if-order.false) c.add.ensures
+pub returns-in-Subtract : goal.returns-in-Subtract
+unfolding operation_of
+returns-in-Subtract c = rw c.in-Subtract.is c.subtract.ensures
