@@ -13,6 +13,8 @@ use Rattle.rounding.specs.Answer.{zero_of}
 use Rattle.rounding.specs.Sum.{zero_sign}
 use Rattle.depth.specs.Depth.{Operation, plus}
 use Rattle.checks.specs.declared.Number.{Number}
+use Rattle.std.specs.Prelude.{Result, Ok, Err}
+use Rattle.std.specs.Result.{IsErr}
 use Rattle.checks.specs.declared.Refusal.{Refusal}
 use Rattle.checks.specs.Number.{is_zero_kind, operand_of}
 use Rattle.checks.specs.Check.{accepted, pair_refusal, single_refusal}
@@ -64,67 +66,80 @@ module _ (mode : ℕ) (x : Number) (xl : List ℕ) (y : Number) (yl : List ℕ) 
   accepted_plain wx wy few i j = let g = accepted_ready wx wy in record { first = g.1; second = g.2; first_regular = i; second_regular = j; room = g.3; few = few }
 
   pub accepted_reported : {f : Operation} {exit : List ℕ} {s : Sum} → Reported f (mode_of mode) p (operand_of x xl) (operand_of y yl) exit s → Summed f mode x xl y yl p entry exit s
-  accepted_reported d = record { refused = λ n. absurd (n e); reported = λ k. d }
+  unfolding accepted
+  accepted_reported d = record { refused = λ c k. let none : ◌≡◌ {A = Result (Unit {0}) Refusal} (Ok tt) (Err c) = sym e ∙ k in cc none; reported = λ k. d }
 
-module _ (mode : ℕ) (x : Number) (xl : List ℕ) (y : Number) (yl : List ℕ) (p : ℕ) (entry : List ℕ) (r : Refusal) (e : r ≡ pair_refusal mode (operand_of x xl) (operand_of y yl) p (length entry)) where
-  passed : r.rule ≡ 0 → pair_refusal mode (operand_of x xl) (operand_of y yl) p (length entry) ≡ accepted
-  passed h = pair_unrefused mode (operand_of x xl) (operand_of y yl) p (length entry) (rw e at h)
+module _ (mode : ℕ) (x : Number) (xl : List ℕ) (y : Number) (yl : List ℕ) (p : ℕ) (entry : List ℕ) (r : Result (Unit {0}) Refusal) (e : r ≡ pair_refusal mode (operand_of x xl) (operand_of y yl) p (length entry)) where
+  passed : {u : Unit {0}} → r ≡ Ok u → pair_refusal mode (operand_of x xl) (operand_of y yl) p (length entry) ≡ accepted
+  passed {u} h = pair_unrefused mode (operand_of x xl) (operand_of y yl) p (length entry) u (sym e ∙ h)
 
-  pub pair_ready : r.rule ≡ 0 → Below (2 ^ 64) xl → Below (2 ^ 64) yl → (mode ≤ 3) × WellFormed (operand_of x xl) × WellFormed (operand_of y yl) × Room p (length entry)
+  pub pair_ready : {u : Unit {0}} → r ≡ Ok u → Below (2 ^ 64) xl → Below (2 ^ 64) yl → (mode ≤ 3) × WellFormed (operand_of x xl) × WellFormed (operand_of y yl) × Room p (length entry)
   pair_ready h wx wy = accepted_ready mode x xl y yl p entry (passed h) wx wy
 
-  pub pair_plain : r.rule ≡ 0 → Below (2 ^ 64) xl → Below (2 ^ 64) yl → (p ≤ 62) × (is_zero_kind x.kind ≡ false) × (is_zero_kind y.kind ≡ false) → Plain x xl y yl p (length entry)
+  pub pair_plain : {u : Unit {0}} → r ≡ Ok u → Below (2 ^ 64) xl → Below (2 ^ 64) yl → (p ≤ 62) × (is_zero_kind x.kind ≡ false) × (is_zero_kind y.kind ≡ false) → Plain x xl y yl p (length entry)
   pair_plain h wx wy t = accepted_plain mode x xl y yl p entry (passed h) wx wy t.0 t.1 t.2
 
-  pub pair_refused : {f : Operation} {s : Sum} → (r.rule ≡ 0 → ⊥) → s ≡ refused_sum r 0 0 0 → Summed f mode x xl y yl p entry entry s
+  pub pair_refused : {f : Operation} {s : Sum} {c : Refusal} → r ≡ Err c → s ≡ refused_sum c 0 0 0 → Summed f mode x xl y yl p entry entry s
   unfolding accepted
-  pair_refused h a =
+  pair_refused {f} {s} {c} h a =
       record {
-        refused = λ n. record { answer = a ∙ ap (λ (c : Refusal). refused_sum c 0 0 0) e; target = refl };
-        reported = λ k. absurd (h (ap (λ (c : Refusal). c.rule) (e ∙ k)));
+        refused = λ d k.
+            let both : ◌≡◌ {A = Result (Unit {0}) Refusal} (Err c) (Err d) = sym h ∙ e ∙ k in
+            let same : c ≡ d = cc both in
+            record { answer = a ∙ ap (λ (q : Refusal). refused_sum q 0 0 0) same; target = refl };
+        reported = λ k. let none : ◌≡◌ {A = Result (Unit {0}) Refusal} (Err c) (Ok tt) = sym h ∙ e ∙ k in cc none;
       }
 
-  -- sizes that do not pass
-  pub sizes_refused : {f : Operation} {s : Sum} → (SizesPass x.precision (length xl) y.precision (length yl) p (length entry) → ⊥) → s ≡ refused_sum r 0 0 0 → Summed f mode x xl y yl p entry entry s
-  unfolding operand_of
-  sizes_refused n a = pair_refused (λ h. n (accepted_sized mode (operand_of x xl) (operand_of y yl) p (length entry) (passed h))) a
-
-  pub pair_reported : {f : Operation} {exit : List ℕ} {s : Sum} → r.rule ≡ 0 → Reported f (mode_of mode) p (operand_of x xl) (operand_of y yl) exit s → Summed f mode x xl y yl p entry exit s
+  pub pair_reported : {f : Operation} {exit : List ℕ} {s : Sum} {u : Unit {0}} → r ≡ Ok u → Reported f (mode_of mode) p (operand_of x xl) (operand_of y yl) exit s → Summed f mode x xl y yl p entry exit s
   pair_reported h d = accepted_reported mode x xl y yl p entry (passed h) d
 
-module _ (mode : ℕ) (x : Number) (xl : List ℕ) (p : ℕ) (entry : List ℕ) (r : Refusal) (e : r ≡ single_refusal mode (operand_of x xl) p (length entry)) where
-  passed_single : r.rule ≡ 0 → single_refusal mode (operand_of x xl) p (length entry) ≡ accepted
-  passed_single h = single_unrefused mode (operand_of x xl) p (length entry) (rw e at h)
+module _ (mode : ℕ) (x : Number) (xl : List ℕ) (p : ℕ) (entry : List ℕ) (r : Result (Unit {0}) Refusal) (e : r ≡ single_refusal mode (operand_of x xl) p (length entry)) where
+  passed_single : {u : Unit {0}} → r ≡ Ok u → single_refusal mode (operand_of x xl) p (length entry) ≡ accepted
+  passed_single {u} h = single_unrefused mode (operand_of x xl) p (length entry) u (sym e ∙ h)
 
-  pub single_ready : r.rule ≡ 0 → Below (2 ^ 64) xl → (mode ≤ 3) × WellFormed (operand_of x xl) × Room p (length entry)
+  pub single_ready : {u : Unit {0}} → r ≡ Ok u → Below (2 ^ 64) xl → (mode ≤ 3) × WellFormed (operand_of x xl) × Room p (length entry)
   unfolding operand_of
   single_ready h w =
       let g = accepted_single mode (operand_of x xl) p (length entry) w (passed_single h) in
       (g.mode_small, g.only, record { least = g.target.least; most = g.target.most; count = g.target.count })
 
-  pub single_refused : {s : Sum} → (r.rule ≡ 0 → ⊥) → s ≡ refused_sum r 0 0 0 → Rerounded mode x xl p entry entry s
+  pub single_refused : {s : Sum} {c : Refusal} → r ≡ Err c → s ≡ refused_sum c 0 0 0 → Rerounded mode x xl p entry entry s
   unfolding accepted
-  single_refused h a =
+  single_refused {s} {c} h a =
       record {
-        refused = λ n. record { answer = a ∙ ap (λ (c : Refusal). refused_sum c 0 0 0) e; target = refl };
-        reported = λ k. absurd (h (ap (λ (c : Refusal). c.rule) (e ∙ k)));
+        refused = λ d k.
+            let both : ◌≡◌ {A = Result (Unit {0}) Refusal} (Err c) (Err d) = sym h ∙ e ∙ k in
+            let same : c ≡ d = cc both in
+            record { answer = a ∙ ap (λ (q : Refusal). refused_sum q 0 0 0) same; target = refl };
+        reported = λ k. let none : ◌≡◌ {A = Result (Unit {0}) Refusal} (Err c) (Ok tt) = sym h ∙ e ∙ k in cc none;
       }
 
   -- a zero is added to itself
-  pub zero_rerounded : {exit : List ℕ} {s : Sum} → r.rule ≡ 0 → Below (2 ^ 64) xl → (operand_of x xl).is_zero ≡ true
+  pub zero_rerounded : {exit : List ℕ} {s : Sum} {u : Unit {0}} → r ≡ Ok u → Below (2 ^ 64) xl → (operand_of x xl).is_zero ≡ true
       → Reported plus (mode_of mode) p (operand_of x xl) (operand_of x xl) exit s → Rerounded mode x xl p entry exit s
+  unfolding accepted
   zero_rerounded {exit} {s} h w z d =
       record {
-        refused = λ n. absurd (n (passed_single h));
+        refused = λ c k. let none : ◌≡◌ {A = Result (Unit {0}) Refusal} (Ok tt) (Err c) = sym (passed_single h) ∙ k in cc none;
         reported = λ k. subst (λ (v : Operand). Reported plus (mode_of mode) p (operand_of x xl) v exit s) (zero_alike (operand_of x xl) (single_ready h w).1 z) d;
       }
 
   -- a regular number and any zero
-  pub regular_rerounded : {exit : List ℕ} {s : Sum} → r.rule ≡ 0 → Below (2 ^ 64) xl
+  pub regular_rerounded : {exit : List ℕ} {s : Sum} {u : Unit {0}} → r ≡ Ok u → Below (2 ^ 64) xl
       → ((z : Operand) → WellFormed z → z.is_zero ≡ true → Reported plus (mode_of mode) p (operand_of x xl) z exit s) → Rerounded mode x xl p entry exit s
-  unfolding zero_like
+  unfolding zero_like accepted
   regular_rerounded h w d =
       record {
-        refused = λ n. absurd (n (passed_single h));
+        refused = λ c k. let none : ◌≡◌ {A = Result (Unit {0}) Refusal} (Ok tt) (Err c) = sym (passed_single h) ∙ k in cc none;
         reported = λ k. d (zero_like (operand_of x xl)) (zero_well_formed (operand_of x xl) (single_ready h w).1) refl;
       }
+
+-- sizes that do not pass are refused
+pub sizes_refused : (mode : ℕ) (x : Number) (xl : List ℕ) (y : Number) (yl : List ℕ) (p n : ℕ) {r : Result (Unit {0}) Refusal} → r ≡ pair_refusal mode (operand_of x xl) (operand_of y yl) p n
+    → (SizesPass x.precision (length xl) y.precision (length yl) p n → ⊥) → IsErr r
+unfolding operand_of
+sizes_refused mode x xl y yl p n {r} e none = go r e
+  where
+    go : (q : Result (Unit {0}) Refusal) → q ≡ pair_refusal mode (operand_of x xl) (operand_of y yl) p n → IsErr q
+    go (Ok u) f = absurd (none (accepted_sized mode (operand_of x xl) (operand_of y yl) p n (pair_unrefused mode (operand_of x xl) (operand_of y yl) p n u (sym f))))
+    go (Err c) f = refl

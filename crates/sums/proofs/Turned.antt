@@ -67,6 +67,6 @@ pub summed_turned : (mode : ℕ) (x : Number) (xl : List ℕ) (y : Number) (yl :
 summed_turned mode x xl y yl p entry exit r s =
     let e = refusal_turned mode (operand_of x xl) y yl p (length entry) in
     record {
-      refused = λ n. subst (λ (c : Refusal). Refused c entry exit r) e (s.refused (λ a. n (sym e ∙ a)));
+      refused = λ c a. s.refused c (e ∙ a);
       reported = λ a. reported_turned (mode_of mode) p (operand_of x xl) (operand_of y yl) exit r (subst (λ (v : Operand). Reported plus (mode_of mode) p (operand_of x xl) v exit r) (operand_turned y yl) (s.reported (e ∙ a)));
     }

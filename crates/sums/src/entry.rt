@@ -111,8 +111,8 @@ fn add_sized<'a>(
     ensures { Summed plus mode x xl.now y yl.now p target.old target.new result }
 {
     let refusal = admission::check_pair(mode, x, xl, y, yl, p, target.len());
-    if refusal.rule != 0 {
-        return reports::refused(refusal, 0, 0, 0);
+    if let Err(cause) = refusal {
+        return reports::refused(cause, 0, 0, 0);
     }
     let known = Mode::try_from(mode).unwrap();
     if (x.negative == y.negative) != like {
@@ -149,7 +149,8 @@ fn refuse_sizes(mode: u8, x: Number, xl: &[u64], y: Number, yl: &[u64], p: u64, 
     requires { SizesPass x.precision (length xl.now) y.precision (length yl.now) p n → ⊥ }
     ensures { (target : List ℕ) → length target ≡ n → Summed plus mode x xl.now y yl.now p target target result }
 {
-    reports::refused(refusals::refuse_pair(mode, x, xl, y, yl, p, n), 0, 0, 0)
+    let cause = refusals::refuse(mode, x, xl, y, yl, p, n).unwrap_err();
+    reports::refused(cause, 0, 0, 0)
 }
 
 // Whether all tests pass, both numbers are regular, and the digits are so few that their first column may tell all.
@@ -258,8 +259,8 @@ pub fn reround(mode: u8, x: Number, xl: &[u64], p: u64, target: &mut [u64]) -> S
     ensures { Rerounded mode x xl.now p target.old target.new result }
 {
     let refusal = admission::check_single(mode, x, xl, p, target.len());
-    if refusal.rule != 0 {
-        return reports::refused(refusal, 0, 0, 0);
+    if let Err(cause) = refusal {
+        return reports::refused(cause, 0, 0, 0);
     }
     let known = Mode::try_from(mode).unwrap();
     if is_narrow(p, x, x) {

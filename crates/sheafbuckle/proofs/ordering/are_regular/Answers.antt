@@ -9,6 +9,6 @@ returns-then-not-regular_passes c h = absurd (true≢false (sym h))
 
 pub returns : goal.returns
 returns c h =
-    let first = regular_said _ _ _ c.number_from.ensures (c.regular_passes.ensures (c.if-not-regular_passes.false)) in
-    let second = regular_said _ _ _ c.number_from-2.ensures (c.regular_passes-2.ensures h) in
+    let first = regular_said _ _ _ c.from.ensures (c.regular_passes.ensures (c.if-not-regular_passes.false)) in
+    let second = regular_said _ _ _ c.from-2.ensures (c.regular_passes-2.ensures h) in
     (first.0, first.1, second.0, second.1)
