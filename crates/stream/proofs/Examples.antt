@@ -109,7 +109,7 @@ abbrev longest : List ℕ
 longest = bytes "001000000000008" ++ replicate 1023 48 ++ bytes "\n"
 
 -- it is read; a line of 1,040 bytes is 8 at its place, whatever stands in it
-pub longest_lines : (length longest ≡ 1039) × (number_refusal 2 longest ≡ accepted) × (number_refusal 2 (replicate 1040 48) ≡ bars rules.LineSize Second)
+pub longest_lines : (length longest ≡ 1039) × (number_refusal Second longest ≡ accepted) × (number_refusal Second (replicate 1040 48) ≡ bars rules.LineSize Second)
 unfolding bytes placed number_refusal longest_line read_refusal head_tests limb_tests number_in operand_in limbs_in field kind_in signed_of negative_of kind_of digits_hold all_digits digit_of worth line_feed shortest_line line_size first_refusal accepted precision_holds length_holds exponent_holds form_holds top_bit_holds spare_bits_hold operand_of is_zero_kind counted bias least_precision most_precision least_exponent most_exponent limbs_for spare_bits
 longest_lines = (refl, refl, refl)
 
