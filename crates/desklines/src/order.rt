@@ -13,7 +13,7 @@ pub enum Operation {
     Subtract,
 }
 
-// What a desk line asks.
+// What a desk line asks. The mode is a number: it is judged after the line, by the first check of the sum.
 #[derive(Clone, Copy)]
 pub struct Request {
     pub operation: Operation,

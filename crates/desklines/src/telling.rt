@@ -53,7 +53,7 @@ pub fn put_refusal(refusal: Refusal, out: &mut [u8]) -> usize
     put_end(out, c)
 }
 
-// -1, 0 and 1 in two's complement.
+// -1, 0 and 1 in two's complement. By sign, since the clause is over every number of the type.
 fn ternary_byte(t: i8) -> u64
     ensures { result ≡ ternary_byte t }
 {

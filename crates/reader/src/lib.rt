@@ -29,7 +29,7 @@ fn signed(word: u64) -> i32
     (word as u32).cast_signed()
 }
 
-// Kinds 0 and 1 are regular numbers.
+// Kinds 0 and 1 are regular numbers; the definition takes any number, since kinds above 3 are refused before.
 fn kind_of(k: u64) -> Kind
     ensures { result ≡ kind_of k }
 {
@@ -101,7 +101,7 @@ fn form_in(x: Number, line: &[u8], n: usize) -> bool
     checks::form_holds(x, &ends)
 }
 
-// The limbs, from the top down.
+// The limbs, from the top down, each by its place, as the definition counts them.
 fn read_limbs(line: &[u8], target: &mut [u64])
     requires { (digits_hold line.now ≡ true) × (length line.now ≡ shortest_line + 16 * length target.old) }
     ensures { target.new ≡ limbs_in (length target.old) line.now }

@@ -59,6 +59,7 @@ fn serve_groups(lines: &mut Lines, bytes: &[u8], out: &mut [u8]) -> Served
     let most = desklines::longest_answer();
     let mut taken: usize = 0;
     let mut told: usize = 0;
+    // A turn takes as many bytes as its group does, which no iterator counts.
     while taken < bytes.len() {
         if out.len() - told < most {
             return Served { taken, told };

@@ -28,7 +28,7 @@ fn write_head(x: Number, room: &mut [u8])
     text::write_digits(&mut room[6..14], checks::counted_exponent(x.exponent));
 }
 
-// The limbs, from the top down, over the whole part.
+// The limbs, from the top down, over the whole part: by place, since nothing is known of what is written through chunks once they are given back.
 fn write_limbs(limbs: &[u64], part: &mut [u8])
     requires { length part.old ≡ 16 * length limbs.now }
     ensures { part.new ≡ limb_digits limbs.now }
