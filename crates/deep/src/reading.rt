@@ -52,7 +52,8 @@ fn is_fixed(p: u64, pair: Pair, front: Front, k: u64) -> bool
     (pair.first <= 64 * k) & (pair.gap + pair.second <= 64 * k)
 }
 
-// What is read, after so many columns, and whether they are seen to fix the answer.
+// What is read, after so many columns, and whether they are seen to fix the answer: a flag, since `ReadOn` says what the other two show in
+// either case.
 #[derive(Clone, Copy)]
 pub struct Reading {
     pub fixed: bool,

@@ -105,7 +105,7 @@ fn append(front: Front, low: u64, change: Option<Change>) -> Front
     changed(front.carry, front.limb, next, up)
 }
 
-// The next column of a sum or a difference.
+// The next column of a sum or a difference, one function over the sign, since `Stepped` says both cases of it.
 pub fn step(same: bool, front: Front, a: u64, b: u64) -> Front
     ensures { Stepped same front a b result }
 {
