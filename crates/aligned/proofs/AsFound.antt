@@ -16,6 +16,8 @@ use Rattle.rounding.specs.declared.Mode.{Mode}
 use Rattle.rounding.proofs.Order.{le_or_lt}
 use Rattle.checks.specs.declared.Number.{Number}
 use Rattle.checks.specs.Number.{operand_of}
+use Rattle.checks.specs.declared.operand.Regular.{Regular}
+use Rattle.checks.specs.Held.{regular}
 use Rattle.place.specs.declared.Placed.{Placed}
 use Rattle.checks.specs.Room.{Room}
 use Rattle.descent.proofs.AtOnce.{some_of}
@@ -42,10 +44,18 @@ subtracted_named {a} {b} {first} {second} {t} {w} {z} e f r = rw (← e, ← f) 
 
 -- ---- numbers and their operands
 
+pub regular_told : (x : Regular) → (regular x).is_zero ≡ false
+unfolding operand_of
+regular_told x = x.regular
+
 pub aligned_told : (x : Number) (xl : List ℕ) (y : Number) (yl : List ℕ) (n : ℕ) → WellFormed (operand_of x xl) → (operand_of x xl).is_zero ≡ false → WellFormed (operand_of y yl) → (operand_of y yl).is_zero ≡ false → x.exponent ≡ y.exponent → length xl ≡ n → length yl ≡ n
     → Aligned (operand_of x xl) (operand_of y yl) n
 unfolding operand_of
 aligned_told x xl y yl n g r h s e i j = record { first = g; second = h; first_regular = r; second_regular = s; even = ap counted (sym e); first_limbs = i; second_limbs = j }
+
+-- two regular numbers of one exponent, as they are held
+pub level_held : (x y : Regular) (n : ℕ) → x.number.exponent ≡ y.number.exponent → length x.limbs.now ≡ n → length y.limbs.now ≡ n → Aligned (regular x) (regular y) n
+level_held x y n e f g = aligned_told x.number x.limbs.now y.number y.limbs.now n x.formed (regular_told x) y.formed (regular_told y) e f g
 
 pub exponent_told : (x : Number) (xl : List ℕ) (top : ℕ) → top ≡ counted x.exponent → top ≡ (operand_of x xl).exponent
 unfolding operand_of

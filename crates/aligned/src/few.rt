@@ -7,7 +7,7 @@
 ghost use Rattle.std.specs.Prelude.{◌≡◌, false, cond, ◌&&◌, ℕ, ◌-◌, ◌*◌, ◌/◌, ◌^◌, ◌≤◌, leb, length};
 ghost use Rattle.std.specs.Bool.{beq};
 ghost use Rattle.limb.specs.Value.{value_of};
-ghost use Rattle.checks.specs.Number.{operand_of};
+ghost use Rattle.checks.specs.Held.{regular};
 ghost use Rattle.twolimbs.specs.Two.{head_in};
 ghost use Rattle.checks.specs.Room.{Room};
 ghost use Rattle.wide.specs.Attempted.{Attempts};
@@ -15,7 +15,7 @@ ghost use Rattle.aligned.specs.Aligned.{Aligned};
 ghost use Rattle.aligned.specs.Few.{Few, AbsoluteDifference};
 
 use crate::cancelled;
-use checks::Number;
+use checks::Regular;
 use choice::either;
 use place::Placed;
 use rounding::Mode;
@@ -86,25 +86,19 @@ pub fn are_few(first: u64, second: u64, p: u64, n: usize) -> bool
 }
 
 // Two operands of unlike signs. Left open where a refusal is near.
-pub fn subtract(
-    mode: Mode,
-    x: Number,
-    xl: &[u64],
-    y: Number,
-    yl: &[u64],
-    top: u64,
-    target: &mut [u64],
-) -> Option<Attempt>
-    requires { Few (length target.old) × Aligned (operand_of x xl.now) (operand_of y yl.now) (length target.old) × (beq x.negative y.negative ≡ false) × (top ≡ (operand_of x xl.now).exponent) }
-    ensures { (length target.new ≡ length target.old) × ((p : ℕ) → Room p (length target.old) → x.precision ≤ p → y.precision ≤ p → Attempts mode p (operand_of x xl.now) (operand_of y yl.now) target.new result) }
+pub fn subtract(mode: Mode, x: Regular, y: Regular, top: u64, target: &mut [u64]) -> Option<Attempt>
+    requires { Few (length target.old) × Aligned (regular x) (regular y) (length target.old) × (beq x.number.negative y.number.negative ≡ false) × (top ≡ (regular x).exponent) }
+    ensures { (length target.new ≡ length target.old) × ((p : ℕ) → Room p (length target.old) → x.entry.number.precision ≤ p → y.entry.number.precision ≤ p → Attempts mode p (regular x.entry) (regular y.entry) target.new result) }
 {
     let n = target.len() as u64;
+    let a = x.number;
+    let b = y.number;
     if bounds::is_low(top, n) {
         return None;
     }
-    let d = difference(xl, yl);
+    let d = difference(x.limbs, y.limbs);
     if (d.high == 0) & (d.low == 0) {
-        return Some(cancelled(mode, x.negative, y.negative, target));
+        return Some(cancelled(mode, a.negative, b.negative, target));
     }
     let r = twolimbs::normalize(false, d.high, d.low, top);
     write(target, r.high, r.low);
@@ -114,7 +108,7 @@ pub fn subtract(
         ternary: 0,
     };
     Some(Attempt {
-        negative: x.negative != d.swapped,
+        negative: a.negative != d.swapped,
         placed,
         depth: n,
         first: n,

@@ -10,9 +10,9 @@
 ghost use Rattle.std.specs.Prelude.{◌≡◌, false, cond, ℕ, ◌+◌, ◌-◌, ◌*◌, ◌%◌, ◌^◌, ◌≤◌, ◌<◌, ltb, length, get_or};
 ghost use Rattle.std.specs.Bool.{beq};
 ghost use Rattle.limb.specs.Value.{value_of};
-ghost use Rattle.numbers.specs.Operand.{Operand, WellFormed};
+ghost use Rattle.numbers.specs.Operand.{Operand};
 ghost use Rattle.rounding.specs.declared.Mode.{Mode};
-ghost use Rattle.checks.specs.Number.{operand_of};
+ghost use Rattle.checks.specs.Held.{regular};
 ghost use Rattle.place.specs.Placed.{run_rule};
 ghost use Rattle.checks.specs.Room.{Room};
 ghost use Rattle.wide.specs.Attempted.{Attempted, Attempts};
@@ -21,7 +21,7 @@ ghost use Rattle.aligned.specs.Aligned.{Aligned, Cancelling, Alike, Reducible, S
 mod few; // few.rt: one or two limbs, by value
 mod level; // level.rt: two limbs each that are alike in the upper one, into one limb
 
-use checks::Number;
+use checks::Regular;
 use choice::either;
 pub use level::subtract_lower;
 use place::Placed;
@@ -142,78 +142,69 @@ fn cancelled(mode: Mode, a: bool, b: bool, target: &mut [u64]) -> Attempt
 }
 
 // Two operands of unlike signs. Left open where a refusal is near, and where a borrow empties the target's top limb.
-fn subtract<'a>(
+fn subtract(
     mode: Mode,
-    x: Number,
-    xl: &'a [u64],
-    y: Number,
-    yl: &'a [u64],
+    x: Regular,
+    y: Regular,
     top: u64,
     p: u64,
     target: &mut [u64],
 ) -> Option<Attempt>
-    requires { Room p (length target.old) × Aligned (operand_of x xl.now) (operand_of y yl.now) (length target.old) × (beq x.negative y.negative ≡ false) × (top ≡ (operand_of x xl.now).exponent) }
-    ensures { (length target.new ≡ length target.old) × Attempts mode p (operand_of x xl.now) (operand_of y yl.now) target.new result }
+    requires { Room p (length target.old) × Aligned (regular x) (regular y) (length target.old) × (beq x.number.negative y.number.negative ≡ false) × (top ≡ (regular x).exponent) }
+    ensures { (length target.new ≡ length target.old) × Attempts mode p (regular x.entry) (regular y.entry) target.new result }
 {
     let n = target.len();
     if bounds::is_low(top, n as u64) {
         return None;
     }
-    let z = alike(xl, yl);
+    let a = x.number;
+    let b = y.number;
+    let z = alike(x.limbs, y.limbs);
     if z == n {
-        return Some(cancelled(mode, x.negative, y.negative, target));
+        return Some(cancelled(mode, a.negative, b.negative, target));
     }
-    let swapped = is_second_larger(xl, yl, z);
-    subtract_in_order(target, z, swapped, xl, yl);
+    let swapped = is_second_larger(x.limbs, y.limbs, z);
+    subtract_in_order(target, z, swapped, x.limbs, y.limbs);
     if target[n - 1] == 0 {
         return None;
     }
-    if (x.precision <= p) & (y.precision <= p) {
-        return Some(settle_whole(x.negative != swapped, z as u64, top, p, target));
+    let negative = a.negative != swapped;
+    if (a.precision <= p) & (b.precision <= p) {
+        return Some(settle_whole(negative, z as u64, top, p, target));
     }
-    Some(round_whole(mode, x.negative != swapped, false, z as u64, top, p, target))
+    Some(round_whole(mode, negative, false, z as u64, top, p, target))
 }
 
 // Two operands of unlike signs: one or two limbs by value where all digits of the difference are kept, else limb by limb.
-fn subtract_any<'a>(
+fn subtract_any(
     mode: Mode,
-    x: Number,
-    xl: &'a [u64],
-    y: Number,
-    yl: &'a [u64],
+    x: Regular,
+    y: Regular,
     top: u64,
     p: u64,
     target: &mut [u64],
 ) -> Option<Attempt>
-    requires { Room p (length target.old) × Aligned (operand_of x xl.now) (operand_of y yl.now) (length target.old) × (beq x.negative y.negative ≡ false) × (top ≡ (operand_of x xl.now).exponent) }
-    ensures { (length target.new ≡ length target.old) × Attempts mode p (operand_of x xl.now) (operand_of y yl.now) target.new result }
+    requires { Room p (length target.old) × Aligned (regular x) (regular y) (length target.old) × (beq x.number.negative y.number.negative ≡ false) × (top ≡ (regular x).exponent) }
+    ensures { (length target.new ≡ length target.old) × Attempts mode p (regular x.entry) (regular y.entry) target.new result }
 {
-    if few::are_few(x.precision, y.precision, p, target.len()) {
-        return few::subtract(mode, x, xl, y, yl, top, target);
+    if few::are_few(x.number.precision, y.number.precision, p, target.len()) {
+        return few::subtract(mode, x, y, top, target);
     }
-    subtract(mode, x, xl, y, yl, top, p, target)
+    subtract(mode, x, y, top, p, target)
 }
 
 // Adds two regular numbers of one exponent that have as many limbs as the target.
-pub fn attempt<'a>(
-    mode: Mode,
-    x: Number,
-    xl: &'a [u64],
-    y: Number,
-    yl: &'a [u64],
-    p: u64,
-    target: &mut [u64],
-) -> Option<Attempt>
-    requires { WellFormed (operand_of x xl.now) × ((operand_of x xl.now).is_zero ≡ false) × WellFormed (operand_of y yl.now) × ((operand_of y yl.now).is_zero ≡ false) × (x.exponent ≡ y.exponent) × (length xl.now ≡ length target.old) × (length yl.now ≡ length target.old) × Room p (length target.old) }
-    ensures { (length target.new ≡ length target.old) × Attempts mode p (operand_of x xl.now) (operand_of y yl.now) target.new result }
+pub fn attempt(mode: Mode, x: Regular, y: Regular, p: u64, target: &mut [u64]) -> Option<Attempt>
+    requires { (x.number.exponent ≡ y.number.exponent) × (length x.limbs.now ≡ length target.old) × (length y.limbs.now ≡ length target.old) × Room p (length target.old) }
+    ensures { (length target.new ≡ length target.old) × Attempts mode p (regular x.entry) (regular y.entry) target.new result }
 {
-    let top = checks::counted_exponent(x.exponent);
-    if x.negative != y.negative {
-        return subtract_any(mode, x, xl, y, yl, top, p, target);
+    let top = checks::counted_exponent(x.number.exponent);
+    if x.number.negative != y.number.negative {
+        return subtract_any(mode, x, y, top, p, target);
     }
     if bounds::is_high(top) {
         return None;
     }
-    let carry = fused::sum(target, xl, yl);
-    Some(round_whole(mode, x.negative, carry, 0, top, p, target))
+    let carry = fused::sum(target, x.limbs, y.limbs);
+    Some(round_whole(mode, x.number.negative, carry, 0, top, p, target))
 }

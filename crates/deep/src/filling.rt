@@ -2,7 +2,7 @@
 ghost use Rattle.std.specs.Prelude.{◌≡◌, ◌≤◌, length};
 ghost use Rattle.settle.specs.Rows.{Modest};
 ghost use Rattle.checks.specs.Room.{Room};
-ghost use Rattle.wide.specs.Filling.{Offered, FillsBy};
+ghost use Rattle.wide.specs.Filling.{FillsBy};
 ghost use Rattle.deep.specs.Deep.{Deep, Inner};
 ghost use Rattle.deep.specs.Reading.{FrontFilled};
 
@@ -10,7 +10,7 @@ use crate::reading::{is_settled, read_on};
 use front::Front;
 use rounding::Mode;
 use settle::Pair;
-use wide::Filled;
+use wide::{Filled, Operands};
 
 // The last column below which both operands have more than a digit.
 fn inner_of(pair: Pair) -> u64
@@ -41,34 +41,27 @@ fn filled(front: Front, more: bool, depth: u64, target: &mut [u64]) -> Filled
 }
 
 // Fills a target of one limb, where a column after the first is seen to fix the answer, or the first does.
-pub fn fill(
-    mode: Mode,
-    negative: bool,
-    p: u64,
-    pair: Pair,
-    first: &[u64],
-    second: &[u64],
-    target: &mut [u64],
-) -> Option<Filled>
-    requires { Room p (length target.old) × Offered pair first.now second.now × (p ≤ 62) × Deep pair }
-    ensures { (length target.new ≡ length target.old) × FillsBy mode negative p pair first.now second.now target.new result }
+pub fn fill(mode: Mode, p: u64, order: &Operands, target: &mut [u64]) -> Option<Filled>
+    requires { Room p (length target.old) × (p ≤ 62) × Deep order.now.pair }
+    ensures { (length target.new ≡ length target.old) × FillsBy mode order.now.negative p order.now.pair order.now.first.now order.now.second.now target.new result }
 {
+    let pair = order.pair;
     let stop = inner_of(pair);
     if !descent::is_inland(pair, stop) {
         return None;
     }
-    let u = first[first.len() - 1];
-    let v = second[second.len() - 1];
+    let u = order.first[order.first.len() - 1];
+    let v = order.second[order.second.len() - 1];
     let begun = front::begin(pair.same, u, v >> pair.gap);
     let digits = front::digits_of(begun);
     if digits < p + 2 {
         return None;
     }
     let x = front::rest_kept(begun, digits - p);
-    if is_settled(settle::way_of(mode, negative), pair.same, x) {
+    if is_settled(settle::way_of(mode, order.negative), pair.same, x) {
         return Some(filled(begun, !pair.same, 1, target));
     }
-    let r = read_on(p, pair, first, second, begun, stop);
+    let r = read_on(p, order, begun, stop);
     if !r.fixed {
         return None;
     }

@@ -6,7 +6,7 @@ ghost use Rattle.settle.specs.Rows.{Modest};
 ghost use Rattle.remnant.specs.Rest.{RestOf};
 ghost use Rattle.front.specs.Front.{first_of};
 ghost use Rattle.bridge.specs.Verdict.{settled_by, read_sum};
-ghost use Rattle.wide.specs.Filling.{Holding, Offered};
+ghost use Rattle.wide.specs.Filling.{Holding};
 ghost use Rattle.deep.specs.Deep.{Inner};
 ghost use Rattle.deep.specs.Reading.{inner_row, KeptTail, Ends, ReadOn};
 
@@ -14,6 +14,7 @@ use front::Front;
 use remnant::Rest;
 use settle::{Pair, Way};
 use walk::Tail;
+use wide::Operands;
 
 // Whether a column fixes the answer, both operands having more than a digit below it.
 pub fn is_settled(way: Way, same: bool, x: Rest) -> bool
@@ -52,8 +53,8 @@ fn is_fixed(p: u64, pair: Pair, front: Front, k: u64) -> bool
     (pair.first <= 64 * k) & (pair.gap + pair.second <= 64 * k)
 }
 
-// What is read, after so many columns, and whether they are seen to fix the answer: a flag, since `ReadOn` says what the other two show in
-// either case.
+// What is read, after so many columns, and whether they are seen to fix the answer. What they show is said in either case, so that no
+// Option stands in place of the flag.
 #[derive(Clone, Copy)]
 pub struct Reading {
     pub fixed: bool,
@@ -62,31 +63,25 @@ pub struct Reading {
 }
 
 // Passes over the columns that go on as the last digit of the first, and reads one more.
-pub fn read_on(
-    p: u64,
-    pair: Pair,
-    first: &[u64],
-    second: &[u64],
-    begun: Front,
-    stop: u64,
-) -> Reading
-    requires { Offered pair first.now second.now × Inner pair stop }
-    ensures { (x y : Operand) → Holding x y pair first.now second.now → first_of begun ≡ read_sum x y 1 → ReadOn p pair stop x y result }
+pub fn read_on(p: u64, order: &Operands, begun: Front, stop: u64) -> Reading
+    requires { Inner order.now.pair stop }
+    ensures { (x y : Operand) → Holding x y order.now.pair order.now.first.now order.now.second.now → first_of begun ≡ read_sum x y 1 → ReadOn p order.now.pair stop x y result }
 {
+    let pair = order.pair;
     let odd = begun.limb % 2 == 1;
-    let on = front::pass_over(pair, first, second, odd, stop);
+    let on = front::pass_over(pair, order.first, order.second, odd, stop);
     let above = Front {
         carry: begun.carry,
         limb: begun.limb,
         tail: kept_tail(odd, on),
     };
-    let a = columns::column(first, pair.first, 0, on);
-    let b = columns::column(second, pair.second, pair.gap, on);
+    let a = columns::column(order.first, pair.first, 0, on);
+    let b = columns::column(order.second, pair.second, pair.gap, on);
     let next = front::step(pair.same, above, a, b);
     let columns = on + 1;
     Reading {
         fixed: is_fixed(p, pair, next, columns),
         front: next,
-        columns: columns,
+        columns,
     }
 }

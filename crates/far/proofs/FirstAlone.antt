@@ -29,9 +29,9 @@ use Rattle.reports.proofs.Counts.{used_none, used_all}
 use Rattle.wide.specs.declared.filling.Filled.{Filled}
 use Rattle.wide.specs.Filling.{Holding, Rounds, Fills}
 use Rattle.wide.specs.Attempted.{Attempted}
-use Rattle.wide.proofs.InHollow.{number_falls, hollow_sum, hollow_difference}
+use Rattle.wide.proofs.InHollow.{hollow_rounds}
 use Rattle.wide.proofs.InOrder.{unit_room, fit, in_order_told}
-use Rattle.far.specs.Beside.{Beside}
+use Rattle.wide.specs.Beside.{Beside}
 use Rattle.far.specs.Alone.{Alone}
 use Rattle.far.proofs.Limbs.{read_all}
 
@@ -39,9 +39,6 @@ use Rattle.far.proofs.Limbs.{read_all}
 
 pub beside_more : {same : Bool} (first after : List ℕ) → after ≡ first → same ≡ true → Beside same first after 0
 beside_more first after e t = record { size = ap length e; more = λ s. (ap value_of e, refl); less = λ s. absurd (true≢false (sym t ∙ s)) }
-
-pub beside_less : {same : Bool} (first mid after : List ℕ) (out : Bool) → Below (2 ^ 64) after → mid ≡ first → ChangedFrom Fall 0 mid after out → same ≡ false → Beside same first after 18446744073709551615
-beside_less first mid after out lim e f t = record { size = f.same_length ∙ ap length e; more = λ s. absurd (true≢false (sym s ∙ t)); less = λ s. (number_falls mid after out (value_of first) lim (ap value_of e) f, refl) }
 
 -- ---- the limbs used
 
@@ -105,11 +102,7 @@ module _ (p : ℕ) (pair : Pair) (first before : List ℕ) (a : Alone p pair fir
     size = b.size ∙ a.long
 
     fills : Fills p pair first second after (Some (run_of n guard))
-    fills o z w g = go pair.same refl
-      where
-        go : (s : Bool) → pair.same ≡ s → Rounds o p z w after false guard true n
-        go true s = rw (b.more s).1 (hollow_sum p pair first second before after a.room apart a.far prompt size lim o z w g s ((b.more s).0 ∙ sym read))
-        go false s = rw (b.less s).1 (hollow_difference p pair first second before after a.room apart a.far prompt size lim o z w g s (rw read (b.less s).0))
+    fills o z w g = hollow_rounds p pair first second before after a.room apart a.far prompt size lim o z w g first guard (sym read) b
 
     kept : Room p (length after)
     kept = room_kept _ _ _ size a.room

@@ -27,7 +27,7 @@ use Rattle.bridge.proofs.Told.{pair_top}
 use Rattle.bridge.proofs.Covered.{columns_above}
 use Rattle.descent.proofs.JudgingRange.{digits_some}
 use Rattle.descent.proofs.RegularEnd.{deep_enough}
-use Rattle.far.specs.Beside.{Beside}
+use Rattle.wide.specs.Beside.{Beside}
 use Rattle.far.specs.Alone.{Alone, Answered}
 use Rattle.far.proofs.FirstAlone.{x, count, digits_are, far_fit, beside_more}
 

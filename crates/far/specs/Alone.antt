@@ -8,7 +8,7 @@ use Rattle.settle.specs.declared.rows.Pair.{Pair}
 use Rattle.checks.specs.Room.{Room}
 use Rattle.descent.specs.Course.{Inland}
 use Rattle.wide.specs.Filling.{Offered}
-use Rattle.far.specs.Beside.{Beside}
+use Rattle.wide.specs.Beside.{Beside}
 
 -- some second operand begins below all columns of the target and more than a digit below those asked for, and no refusal is near
 pub record Alone (p : ℕ) (pair : Pair) (first target : List ℕ) : Type 0 where

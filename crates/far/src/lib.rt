@@ -11,9 +11,8 @@ ghost use Rattle.rounding.specs.Mode.{way};
 ghost use Rattle.location.specs.declared.Location.TheVariants.{Upper};
 ghost use Rattle.location.specs.Location.{goes_up};
 ghost use Rattle.checks.specs.Room.{Room};
-ghost use Rattle.wide.specs.Filling.{Offered};
 ghost use Rattle.wide.specs.Attempted.{AttemptsInOrder};
-ghost use Rattle.far.specs.Beside.{Beside};
+ghost use Rattle.wide.specs.Beside.{Beside};
 ghost use Rattle.far.specs.Alone.{Alone, Answered};
 
 use choice::either;
@@ -22,7 +21,7 @@ use parts::copy;
 use place::Placed;
 use rounding::Mode;
 use settle::Pair;
-use wide::Attempt;
+use wide::{Attempt, Operands};
 
 // Fills the target with the first operand's limbs, or with one less. Returns the guard below them.
 fn fill(same: bool, first: &[u64], target: &mut [u64]) -> u64
@@ -30,40 +29,29 @@ fn fill(same: bool, first: &[u64], target: &mut [u64]) -> u64
     ensures { Beside same first.now target.new result }
 {
     copy(target, first);
-    if same {
-        return 0;
-    }
-    walk::change_from(target, 0, walk::Change::Fall);
-    u64::MAX
+    wide::beside(same, target)
 }
 
 // Rounds the first operand and a little more, or a little less: its limbs, or one less, and a guard.
-fn round_beside(
-    mode: Mode,
-    negative: bool,
-    p: u64,
-    pair: Pair,
-    first: &[u64],
-    target: &mut [u64],
-) -> Placed
-    requires { Alone p pair first.now target.old }
-    ensures { Answered mode p negative pair first.now result target.new }
+fn round_beside(mode: Mode, p: u64, order: &Operands, target: &mut [u64]) -> Placed
+    requires { Alone p order.now.pair order.now.first.now target.old }
+    ensures { Answered mode p order.now.negative order.now.pair order.now.first.now result target.new }
 {
-    let guard = fill(pair.same, first, target);
+    let guard = fill(order.pair.same, order.first, target);
     place::round_fit(
-        negative,
+        order.negative,
         false,
         target,
         guard,
         true,
-        pair.top - 64 * (target.len() as u64 + 1),
+        order.pair.top - 64 * (target.len() as u64 + 1),
         p,
         mode,
     )
 }
 
 // Whether the first operand has no more digits than are asked for, and a little less than it is taken up to it again.
-fn is_kept(mode: Mode, negative: bool, p: u64, pair: Pair) -> bool
+fn is_kept(mode: Mode, p: u64, negative: bool, pair: Pair) -> bool
     ensures { result ≡ true → (pair.first ≤ p) × (pair.same ≡ false → goes_up (way mode negative) Upper false ≡ true) }
 {
     if p < pair.first {
@@ -76,66 +64,44 @@ fn is_kept(mode: Mode, negative: bool, p: u64, pair: Pair) -> bool
 }
 
 // Rounds the same where it is so: the first operand's limbs, perhaps with the last unit.
-fn round_kept(
-    mode: Mode,
-    negative: bool,
-    p: u64,
-    pair: Pair,
-    first: &[u64],
-    target: &mut [u64],
-) -> Placed
-    requires { Alone p pair first.now target.old × (pair.first ≤ p) × (pair.same ≡ false → goes_up (way mode negative) Upper false ≡ true) }
-    ensures { Answered mode p negative pair first.now result target.new }
+fn round_kept(mode: Mode, p: u64, order: &Operands, target: &mut [u64]) -> Placed
+    requires { Alone p order.now.pair order.now.first.now target.old × (order.now.pair.first ≤ p) × (order.now.pair.same ≡ false → goes_up (way mode order.now.negative) Upper false ≡ true) }
+    ensures { Answered mode p order.now.negative order.now.pair order.now.first.now result target.new }
 {
-    copy(target, first);
+    copy(target, order.first);
+    let pair = order.pair;
     if pair.same {
-        return place::round_above(negative, target, pair.top, p, mode);
+        return place::round_above(order.negative, target, pair.top, p, mode);
     }
-    place::round_below(negative, pair.top)
+    place::round_below(order.negative, pair.top)
 }
 
 // Rounds the first operand and a little more, or a little less.
-fn round(
-    mode: Mode,
-    negative: bool,
-    p: u64,
-    pair: Pair,
-    first: &[u64],
-    target: &mut [u64],
-) -> Placed
-    requires { Alone p pair first.now target.old }
-    ensures { Answered mode p negative pair first.now result target.new }
+fn round(mode: Mode, p: u64, order: &Operands, target: &mut [u64]) -> Placed
+    requires { Alone p order.now.pair order.now.first.now target.old }
+    ensures { Answered mode p order.now.negative order.now.pair order.now.first.now result target.new }
 {
-    if is_kept(mode, negative, p, pair) {
-        return round_kept(mode, negative, p, pair, first, target);
+    if is_kept(mode, p, order.negative, order.pair) {
+        return round_kept(mode, p, order, target);
     }
-    round_beside(mode, negative, p, pair, first, target)
+    round_beside(mode, p, order, target)
 }
 
 // Adds two such numbers, where no refusal is near.
-pub fn attempt(
-    mode: Mode,
-    negative: bool,
-    p: u64,
-    pair: Pair,
-    swapped: bool,
-    first: &[u64],
-    second: &[u64],
-    target: &mut [u64],
-) -> Option<Attempt>
-    requires { Room p (length target.old) × Offered pair first.now second.now × (length first.now ≡ length target.old) × (64 * length target.old ≤ pair.gap) × (p + 1 < pair.gap) }
-    ensures { (length target.new ≡ length target.old) × AttemptsInOrder mode p negative pair swapped first.now second.now target.new result }
+pub fn attempt(mode: Mode, p: u64, order: &Operands, target: &mut [u64]) -> Option<Attempt>
+    requires { Room p (length target.old) × (length order.now.first.now ≡ length target.old) × (64 * length target.old ≤ order.now.pair.gap) × (p + 1 < order.now.pair.gap) }
+    ensures { (length target.new ≡ length target.old) × AttemptsInOrder mode p order.now.negative order.now.pair order.now.swapped order.now.first.now order.now.second.now target.new result }
 {
     let n = target.len() as u64;
-    if !descent::is_inland(pair, n - 1) {
+    if !descent::is_inland(order.pair, n - 1) {
         return None;
     }
-    let placed = round(mode, negative, p, pair, first, target);
+    let placed = round(mode, p, order, target);
     Some(Attempt {
-        negative,
+        negative: order.negative,
         placed,
         depth: n,
-        first: either(swapped, n, 0),
-        second: either(swapped, 0, n),
+        first: either(order.swapped, n, 0),
+        second: either(order.swapped, 0, n),
     })
 }

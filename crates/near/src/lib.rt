@@ -7,46 +7,27 @@
 //
 #![tactic(auto)]
 
-ghost use Rattle.std.specs.Prelude.{◌≡◌, false, ◌<◌, length};
+ghost use Rattle.std.specs.Prelude.{◌≡◌, length};
 ghost use Rattle.checks.specs.Room.{Room};
-ghost use Rattle.wide.specs.Filling.{Offered};
 ghost use Rattle.wide.specs.Attempted.{AttemptsInOrder};
+ghost use Rattle.near.specs.Abreast.{Abreast};
 
 mod filling; // filling.rt: one walk fills the target
 
 use filling::fill;
 use rounding::Mode;
-use settle::Pair;
-use wide::Attempt;
+use wide::{Attempt, Operands};
 
 // Adds two such numbers, the second with its own sign, where the columns that fill the target, or one more, fix the answer.
-pub fn attempt(
-    mode: Mode,
-    negative: bool,
-    p: u64,
-    pair: Pair,
-    swapped: bool,
-    first: &[u64],
-    second: &[u64],
-    target: &mut [u64],
-) -> Option<Attempt>
-    requires { Room p (length target.old) × Offered pair first.now second.now × (length first.now ≡ length target.old) × (length second.now ≡ length target.old) × (0 < pair.gap) × (pair.gap < 64) }
-    ensures { (length target.new ≡ length target.old) × AttemptsInOrder mode p negative pair swapped first.now second.now target.new result }
+pub fn attempt(mode: Mode, p: u64, order: &Operands, target: &mut [u64]) -> Option<Attempt>
+    requires { Room p (length target.old) × Abreast order.now.pair order.now.first.now order.now.second.now (length target.old) }
+    ensures { (length target.new ≡ length target.old) × AttemptsInOrder mode p order.now.negative order.now.pair order.now.swapped order.now.first.now order.now.second.now target.new result }
 {
-    let filled = fill(p, pair, first, second, target)?;
+    let filled = fill(p, order, target)?;
     let n = target.len() as u64;
-    let placed = place::round_fit(
-        negative,
-        filled.carry,
-        target,
-        filled.guard,
-        filled.more,
-        pair.top - 64 * (n + 1),
-        p,
-        mode,
-    );
+    let placed = wide::round(mode, p, order, filled, target);
     Some(Attempt {
-        negative,
+        negative: order.negative,
         placed,
         depth: filled.depth,
         first: n,

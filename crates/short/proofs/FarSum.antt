@@ -49,6 +49,7 @@ use Rattle.wide.proofs.GuardBelow.{read_held}
 use Rattle.wide.proofs.InHollow.{number_falls}
 use Rattle.wide.proofs.InOrder.{fixed_told}
 use Rattle.twolimbs.specs.Two.{head_in}
+use Rattle.wide.specs.Beside.{Beside}
 use Rattle.short.proofs.Held.{first_few, first_large, top_told, read_one, second_lim}
 
 -- a limb at the top of n, and zeros below
@@ -190,6 +191,20 @@ module _ (p : ℕ) (pair : Pair) (u v n : ℕ) (room : Room p n) (long : 2 < n) 
         run : (u Q m P : ℕ) → suc m ≡ u * Q → 2 * (u * (Q * 2 ^ 64)) - 1 ≡ 2 * ((0 * P + m) * 2 ^ 64 + 18446744073709551615) + 1
         run u Q m P e = omega (arith, ap (λ (k : ℕ). k * 2 ^ 64) e)
 
+    -- the larger stood in a run, and a little more or a little less is left there
+    pub far_beside : (run : List ℕ) (guard : ℕ) → value_of run ≡ u * Q → Beside pair.same run after guard → Rounds o p x y after false guard true 1
+    far_beside run guard e b = go pair.same refl
+      where
+        some_Q : 0 < Q
+        some_Q = rw (base_pow (n - 1)) (pow_pos (64 * (n - 1)))
+
+        some : (m : ℕ) → 2 ^ 63 ≤ m → 0 < Q → 0 < m * Q
+        some m l q = omega (arith, mul-le-mul_right Q l)
+
+        go : (s : Bool) → pair.same ≡ s → Rounds o p x y after false guard true 1
+        go true s = rw (b.more s).1 (far_more s ((b.more s).0 ∙ e))
+        go false s = rw (b.less s).1 (far_less s ((b.less s).0 (rw e (some u large some_Q)) ∙ e))
+
     -- ---- the larger as it is
 
     whole : value_of after ≡ u * Q → value_of after ≡ u * 2 ^ (64 * (n - 1))
@@ -234,10 +249,3 @@ restored_left p pair u v n room long far mode x y h after count lim e s negative
   where
     same : below_answer mode p negative pair.top after ≡ add mode p x y
     same = rw sign (sym (restored_is p pair u v n room long far mode x y h after count lim s e))
-
--- one taken off, as the code does it
-pub fallen_value : (u n : ℕ) (before after : List ℕ) (out : Bool) → 1 < n → 2 ^ 63 ≤ u → Below (2 ^ 64) after → value_of before ≡ head_in (2 ^ 64) false u 0 * (2 ^ 64) ^ (n - 2) → ChangedFrom Fall 0 before after out → suc (value_of after) ≡ u * (2 ^ 64) ^ (n - 1)
-fallen_value u n before after out some large lim e f = number_falls before after out (u * (2 ^ 64) ^ (n - 1)) lim (e ∙ alone_worth u n some) f (go u ((2 ^ 64) ^ (n - 1)) large (rw (base_pow (n - 1)) (pow_pos (64 * (n - 1)))))
-  where
-    go : (u Q : ℕ) → 2 ^ 63 ≤ u → 0 < Q → 0 < u * Q
-    go u Q l q = omega (arith, mul-le-mul_right Q l)

@@ -20,18 +20,10 @@ fn fill(p: u64, pair: Pair, u: u64, target: &mut [u64]) -> Filled
     ensures { (length target.new ≡ length target.old) × (result.depth ≡ 1) × ((v : ℕ) → Fills p pair (u ∷ []) (v ∷ []) target.new (Some result)) }
 {
     write(target, u, 0);
-    if pair.same {
-        return Filled {
-            carry: false,
-            guard: 0,
-            more: true,
-            depth: 1,
-        };
-    }
-    walk::change_from(target, 0, walk::Change::Fall);
+    let guard = wide::beside(pair.same, target);
     Filled {
         carry: false,
-        guard: u64::MAX,
+        guard,
         more: true,
         depth: 1,
     }

@@ -14,7 +14,7 @@ use apart::add_apart;
 use close::add_close;
 use rounding::Mode;
 use settle::Pair;
-use wide::Attempt;
+use wide::{Attempt, Operands};
 
 // Adds two limbs in order, u the larger.
 fn add_in_order(
@@ -43,20 +43,18 @@ fn add_in_order(
 }
 
 // Adds two regular numbers in order, of one limb each, unless they lie at the ends of the range, or are apart by a limb or more and no more than the answer is long.
-pub fn attempt(
-    mode: Mode,
-    negative: bool,
-    p: u64,
-    pair: Pair,
-    swapped: bool,
-    first: &[u64],
-    second: &[u64],
-    target: &mut [u64],
-) -> Option<Attempt>
-    requires { Room p (length target.old) × Offered pair first.now second.now × (length first.now ≡ 1) × (length second.now ≡ 1) × (2 < length target.old) }
-    ensures { (length target.new ≡ length target.old) × AttemptsInOrder mode p negative pair swapped first.now second.now target.new result }
+pub fn attempt(mode: Mode, p: u64, order: &Operands, target: &mut [u64]) -> Option<Attempt>
+    requires { Room p (length target.old) × (length order.now.first.now ≡ 1) × (length order.now.second.now ≡ 1) × (2 < length target.old) }
+    ensures { (length target.new ≡ length target.old) × AttemptsInOrder mode p order.now.negative order.now.pair order.now.swapped order.now.first.now order.now.second.now target.new result }
 {
-    let u = first[0];
-    let v = second[0];
-    add_in_order(mode, negative, p, pair, swapped, u, v, target)
+    add_in_order(
+        mode,
+        order.negative,
+        p,
+        order.pair,
+        order.swapped,
+        order.first[0],
+        order.second[0],
+        target,
+    )
 }

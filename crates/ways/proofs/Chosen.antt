@@ -110,9 +110,6 @@ module _ (x : Number) (xl : List ℕ) (y : Number) (yl : List ℕ) (gx : WellFor
 pub holding_named : {z w : Operand} {pair : Pair} {a b first second : List ℕ} → a ≡ first → b ≡ second → Holding z w pair first second → Holding z w pair a b
 holding_named e f h = record { course = h.course; regular = h.regular; pair_is = h.pair_is; first_is = e ∙ h.first_is; second_is = f ∙ h.second_is }
 
-pub offered_named : {pair : Pair} {a b first second : List ℕ} → a ≡ first → b ≡ second → Offered pair first second → Offered pair a b
-offered_named e f o = record { larger = o.larger; other = o.other; holding = holding_named e f o.holding }
-
 -- two counts that have changed places, put back
 pub counts_back : (s : Bool) {i j upper lower m n : ℕ} → i ≡ cond s lower upper → j ≡ cond s upper lower → upper ≡ m → lower ≡ n → (cond s j i ≡ m) × (cond s i j ≡ n)
 counts_back true e f g h = (f ∙ g, e ∙ h)

@@ -4,16 +4,17 @@
 ghost use Rattle.std.specs.Prelude.{◌≡◌, true, false, not, cond, ◌+◌, ◌*◌, ◌^◌, ◌≤◌, ◌<◌, length};
 ghost use Rattle.numbers.specs.Operand.{WellFormed};
 ghost use Rattle.checks.specs.Number.{operand_of};
+ghost use Rattle.checks.specs.Held.{regular};
 ghost use Rattle.checks.specs.Room.{Room};
-ghost use Rattle.wide.specs.Filling.{Offered, FillsBy};
+ghost use Rattle.wide.specs.Filling.{FillsBy};
 ghost use Rattle.wide.specs.Attempted.{Attempts, AttemptsInOrder};
 ghost use Rattle.deep.specs.Deep.{Deep};
 
-use checks::Number;
+use checks::{Number, Regular};
 use choice::{either, is_level, is_second_larger};
 use rounding::Mode;
 use settle::Pair;
-use wide::{Attempt, Filled};
+use wide::{Attempt, Filled, Operands};
 
 // Whether two numbers have one exponent, and each as many limbs as the target.
 fn is_aligned(x: Number, m: usize, y: Number, k: usize, n: usize) -> bool
@@ -60,143 +61,97 @@ fn is_deep(p: u64, pair: Pair) -> bool
 }
 
 // Fills the target, in the way that may fix the answer.
-fn fill(
-    mode: Mode,
-    negative: bool,
-    p: u64,
-    pair: Pair,
-    first: &[u64],
-    second: &[u64],
-    target: &mut [u64],
-) -> Option<Filled>
-    requires { Room p (length target.old) × Offered pair first.now second.now }
-    ensures { (length target.new ≡ length target.old) × FillsBy mode negative p pair first.now second.now target.new result }
+fn fill(mode: Mode, p: u64, order: &Operands, target: &mut [u64]) -> Option<Filled>
+    requires { Room p (length target.old) }
+    ensures { (length target.new ≡ length target.old) × FillsBy mode order.now.negative p order.now.pair order.now.first.now order.now.second.now target.new result }
 {
-    if is_deep(p, pair) {
-        if let Some(filled) = deep::fill(mode, negative, p, pair, first, second, target) {
+    if is_deep(p, order.pair) {
+        if let Some(filled) = deep::fill(mode, p, order, target) {
             return Some(filled);
         }
     }
-    wide::fill(p, pair, first, second, target)
+    wide::fill(p, order, target)
 }
 
 // Rounds what fills the target.
-fn round_filled(
-    mode: Mode,
-    negative: bool,
-    p: u64,
-    pair: Pair,
-    swapped: bool,
-    first: &[u64],
-    second: &[u64],
-    target: &mut [u64],
-) -> Option<Attempt>
-    requires { Room p (length target.old) × Offered pair first.now second.now }
-    ensures { (length target.new ≡ length target.old) × AttemptsInOrder mode p negative pair swapped first.now second.now target.new result }
+fn round_filled(mode: Mode, p: u64, order: &Operands, target: &mut [u64]) -> Option<Attempt>
+    requires { Room p (length target.old) }
+    ensures { (length target.new ≡ length target.old) × AttemptsInOrder mode p order.now.negative order.now.pair order.now.swapped order.now.first.now order.now.second.now target.new result }
 {
-    let filled = fill(mode, negative, p, pair, first, second, target)?;
-    let k = filled.depth;
-    let placed = place::round_fit(
-        negative,
-        filled.carry,
-        target,
-        filled.guard,
-        filled.more,
-        pair.top - 64 * (target.len() as u64 + 1),
-        p,
-        mode,
-    );
-    let upper = reports::used(k, 0, first.len());
-    let lower = reports::used(k, pair.gap, second.len());
+    let filled = fill(mode, p, order, target)?;
+    let placed = wide::round(mode, p, order, filled, target);
+    let upper = reports::used(filled.depth, 0, order.first.len());
+    let lower = reports::used(filled.depth, order.pair.gap, order.second.len());
     Some(Attempt {
-        negative,
+        negative: order.negative,
         placed,
-        depth: k,
-        first: either(swapped, upper, lower),
-        second: either(swapped, lower, upper),
+        depth: filled.depth,
+        first: either(order.swapped, upper, lower),
+        second: either(order.swapped, lower, upper),
     })
 }
 
 // Reads two operands in order, in the shortest of the ways that fit them.
-fn read_in_order(
-    mode: Mode,
-    negative: bool,
-    p: u64,
-    pair: Pair,
-    swapped: bool,
-    first: &[u64],
-    second: &[u64],
-    target: &mut [u64],
-) -> Option<Attempt>
-    requires { Room p (length target.old) × Offered pair first.now second.now }
-    ensures { (length target.new ≡ length target.old) × AttemptsInOrder mode p negative pair swapped first.now second.now target.new result }
+fn read_in_order(mode: Mode, p: u64, order: &Operands, target: &mut [u64]) -> Option<Attempt>
+    requires { Room p (length target.old) }
+    ensures { (length target.new ≡ length target.old) × AttemptsInOrder mode p order.now.negative order.now.pair order.now.swapped order.now.first.now order.now.second.now target.new result }
 {
-    if is_near(pair, first.len(), second.len(), target.len()) {
-        return near::attempt(mode, negative, p, pair, swapped, first, second, target);
+    let first = order.first.len();
+    let second = order.second.len();
+    let n = target.len();
+    if is_near(order.pair, first, second, n) {
+        return near::attempt(mode, p, order, target);
     }
-    if is_far(p, pair, first.len(), target.len()) {
-        return far::attempt(mode, negative, p, pair, swapped, first, second, target);
+    if is_far(p, order.pair, first, n) {
+        return far::attempt(mode, p, order, target);
     }
-    if is_short(first.len(), second.len(), target.len()) {
-        return short::attempt(mode, negative, p, pair, swapped, first, second, target);
+    if is_short(first, second, n) {
+        return short::attempt(mode, p, order, target);
     }
-    round_filled(mode, negative, p, pair, swapped, first, second, target)
-}
-
-// The same in the order of the caller.
-fn read_as_said<'a>(
-    mode: Mode,
-    negative: bool,
-    p: u64,
-    pair: Pair,
-    swapped: bool,
-    xl: &'a [u64],
-    yl: &'a [u64],
-    target: &mut [u64],
-) -> Option<Attempt>
-    requires { Room p (length target.old) × Offered pair (cond swapped yl.now xl.now) (cond swapped xl.now yl.now) }
-    ensures { (length target.new ≡ length target.old) × AttemptsInOrder mode p negative pair swapped (cond swapped yl.now xl.now) (cond swapped xl.now yl.now) target.new result }
-{
-    let first = either(swapped, xl, yl);
-    let second = either(swapped, yl, xl);
-    read_in_order(mode, negative, p, pair, swapped, first, second, target)
+    round_filled(mode, p, order, target)
 }
 
 // Adds two regular numbers, where the columns that fill the target, or one more, fix the answer. Where their top limbs do not tell which is larger it is left open, but for two limbs each and a target of one.
-fn add_regular<'a>(
-    mode: Mode,
-    x: Number,
-    xl: &'a [u64],
-    y: Number,
-    yl: &'a [u64],
-    p: u64,
-    target: &mut [u64],
-) -> Option<Attempt>
-    requires { WellFormed (operand_of x xl.now) × ((operand_of x xl.now).is_zero ≡ false) × WellFormed (operand_of y yl.now) × ((operand_of y yl.now).is_zero ≡ false) × Room p (length target.old) }
-    ensures { (length target.new ≡ length target.old) × Attempts mode p (operand_of x xl.now) (operand_of y yl.now) target.new result }
+fn add_regular(mode: Mode, p: u64, x: Regular, y: Regular, target: &mut [u64]) -> Option<Attempt>
+    requires { Room p (length target.old) }
+    ensures { (length target.new ≡ length target.old) × Attempts mode p (regular x.entry) (regular y.entry) target.new result }
 {
-    let u = xl[xl.len() - 1];
-    let v = yl[yl.len() - 1];
-    let a = checks::counted_exponent(x.exponent);
-    let b = checks::counted_exponent(y.exponent);
-    let same = x.negative == y.negative;
+    let m = x.number;
+    let n = y.number;
+    let u = x.limbs[x.limbs.len() - 1];
+    let v = y.limbs[y.limbs.len() - 1];
+    let a = checks::counted_exponent(m.exponent);
+    let b = checks::counted_exponent(n.exponent);
+    let same = m.negative == n.negative;
     if is_level(same, a, b, u, v) {
-        if is_lower(xl.len(), yl.len(), target.len()) {
-            return Some(aligned::subtract_lower(mode, x.negative, p, a, xl[0], yl[0], target));
+        if is_lower(x.limbs.len(), y.limbs.len(), target.len()) {
+            return Some(aligned::subtract_lower(
+                mode, m.negative, p, a, x.limbs[0], y.limbs[0], target,
+            ));
         }
         return None;
     }
     let swapped = is_second_larger(a, b, u, v);
     let top = either(swapped, a, b);
     let pair = Pair {
-        same: same,
-        first: either(swapped, x.precision, y.precision),
-        second: either(swapped, y.precision, x.precision),
+        same,
+        first: either(swapped, m.precision, n.precision),
+        second: either(swapped, n.precision, m.precision),
         gap: top - either(swapped, b, a),
-        top: top,
+        top,
     };
-    let negative = either(swapped, x.negative, y.negative);
-    read_as_said(mode, negative, p, pair, swapped, xl, yl, target)
+    read_in_order(
+        mode,
+        p,
+        &Operands {
+            negative: either(swapped, m.negative, n.negative),
+            swapped,
+            pair,
+            first: either(swapped, x.limbs, y.limbs),
+            second: either(swapped, y.limbs, x.limbs),
+        },
+        target,
+    )
 }
 
 // Adds two numbers, where the columns that fill the target, or one more, fix the answer. Where one is zero it is left open.
@@ -218,8 +173,16 @@ pub fn attempt<'a>(
     if checks::is_zero(y) {
         return None;
     }
+    let first = Regular {
+        number: x,
+        limbs: xl,
+    };
+    let second = Regular {
+        number: y,
+        limbs: yl,
+    };
     if is_aligned(x, xl.len(), y, yl.len(), target.len()) {
-        return aligned::attempt(mode, x, xl, y, yl, p, target);
+        return aligned::attempt(mode, first, second, p, target);
     }
-    add_regular(mode, x, xl, y, yl, p, target)
+    add_regular(mode, p, first, second, target)
 }

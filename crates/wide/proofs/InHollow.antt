@@ -1,5 +1,5 @@
 -- What the first operand fixes where the second lies far below it: its columns, and a little more or a little less, round to the answer. Assumes nothing.
-use mathlib.Core.Path.{◌≡◌, sym, ap, ◌∙◌, subst}
+use mathlib.Core.Path.{◌≡◌, refl, sym, ap, ◌∙◌, subst}
 use mathlib.Core.Bool.{Bool, true, false, cond, ◌&&◌}
 use mathlib.Core.List.{List}
 use Prim.Native.Nat.{ℕ, zero, suc, ◌+◌, ◌-◌, ◌*◌, ◌^◌, ◌≤◌, ◌<◌}
@@ -44,6 +44,7 @@ use Rattle.descent.proofs.AtOnce.{head_is, prompt_open}
 use Rattle.descent.proofs.RegularEnd.{deep_enough}
 use Rattle.wide.specs.Filling.{Holding, Rounds}
 use Rattle.wide.specs.Covering.{Covers}
+use Rattle.wide.specs.Beside.{Beside}
 use Rattle.wide.proofs.Unread.{row_hole}
 use Rattle.wide.proofs.FullTarget.{offered_second}
 use Rattle.wide.proofs.GuardBelow.{read_held}
@@ -188,3 +189,11 @@ module _ (p : ℕ) (pair : Pair) (first second before after : List ℕ) (room : 
 
       run : (v P : ℕ) → 2 * (suc v * 2 ^ 64) - 1 ≡ 2 * ((0 * P + v) * 2 ^ 64 + 18446744073709551615) + 1
       run v P = omega arith
+
+  -- what is read stood in a run, and a little more or a little less is left there
+  pub hollow_rounds : (run : List ℕ) (guard : ℕ) → value_of run ≡ D → Beside pair.same run after guard → Rounds o p x y after false guard true n
+  hollow_rounds run guard e b = go pair.same refl
+    where
+      go : (s : Bool) → pair.same ≡ s → Rounds o p x y after false guard true n
+      go true s = rw (b.more s).1 (hollow_sum s ((b.more s).0 ∙ e))
+      go false s = rw (b.less s).1 (hollow_difference s (rw e at (b.less s).0))

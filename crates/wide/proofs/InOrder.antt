@@ -46,6 +46,8 @@ use Rattle.wide.specs.declared.filling.Filled.{Filled}
 use Rattle.wide.specs.Filling.{Holding, Offered, Rounds, Fills, FillsBy}
 use Rattle.reports.specs.Counts.{used_of}
 use Rattle.reports.proofs.Counts.{used_is}
+use Rattle.wide.specs.Sides.{larger_of, other_of}
+use Rattle.wide.proofs.Offering.{sides}
 use Rattle.wide.specs.declared.told.Attempt.{Attempt}
 use Rattle.wide.specs.Attempted.{Attempted, Attempts, AttemptsInOrder}
 
@@ -119,6 +121,14 @@ module _ (x : Number) (xl : List ℕ) (y : Number) (yl : List ℕ) (gx : WellFor
   unfolding operand_of
   turned f = let t = out_of_place a b u v (sym order ∙ f) in course_told Y X gy gx ry rx (rw (← ae, ← be) t.0) (λ q n. rw (← ue, ← ve) (t.1 (ae ∙ q ∙ sym be)))
 
+  pub sign_told : (negative : Bool) → negative ≡ cond swapped y.negative x.negative → negative ≡ (cond swapped Y X).negative
+  unfolding operand_of
+  sign_told negative e = e ∙ go swapped
+    where
+      go : (s : Bool) → cond s y.negative x.negative ≡ (cond s Y X).negative
+      go true = refl
+      go false = refl
+
   module _ (t l m n : ℕ) (te : t ≡ cond swapped b a) (le : l ≡ cond swapped a b) (me : m ≡ cond swapped y.precision x.precision) (ne : n ≡ cond swapped x.precision y.precision) where
     pub gap_some : l ≤ t
     gap_some = go swapped refl
@@ -138,16 +148,14 @@ module _ (x : Number) (xl : List ℕ) (y : Number) (yl : List ℕ) (gx : WellFor
         go true f = record { course = turned f; regular = rx; pair_is = rw (te, le, me, ne, f, beq_turned x.negative y.negative) (ordered_pair y yl x xl b a rx be ae); first_is = refl; second_is = refl }
         go false f = record { course = straight f; regular = ry; pair_is = rw (te, le, me, ne, f) (ordered_pair x xl y yl a b ry ae be); first_is = refl; second_is = refl }
 
+    -- the two operands as the code lays them out
+    pub held_in : (negative : Bool) (first second : List ℕ) → negative ≡ cond swapped y.negative x.negative → first ≡ cond swapped yl xl → second ≡ cond swapped xl yl
+        → Holding (larger_of negative pair first) (other_of negative pair second) pair first second
+    held_in negative first second ne fe se =
+        rw (fe, se) (sides (cond swapped Y X) (cond swapped X Y) pair (cond swapped yl xl) (cond swapped xl yl) holding negative (sign_told negative ne))
+
     pub offered : Offered pair (cond swapped yl xl) (cond swapped xl yl)
     offered = record { larger = cond swapped Y X; other = cond swapped X Y; holding = holding }
-
-  pub sign_told : (negative : Bool) → negative ≡ cond swapped y.negative x.negative → negative ≡ (cond swapped Y X).negative
-  unfolding operand_of
-  sign_told negative e = e ∙ go swapped
-    where
-      go : (s : Bool) → cond s y.negative x.negative ≡ (cond s Y X).negative
-      go true = refl
-      go false = refl
 
 -- ---- what is told of them
 
@@ -263,12 +271,19 @@ module _ (p : ℕ) (pair : Pair) (first second t : List ℕ) (room : Room p (len
     unfolding run_answer
     run_is = rw (sign, top_told p (length t) room pair first second z w h) (sym rounds.answer)
 
+    -- the sum is answered, and stands in the target
+    pub left_told : {exit : List ℕ} {placed : Placed} → placed ≡ rounded_placed mode p negative unit f.carry t f.guard f.more → exit ≡ rounded_limbs mode p negative unit f.carry t f.guard f.more → Left p (add o p z w) exit placed
+    left_told a b = record { told = a ∙ placed_passed mode p negative unit f.carry t f.guard f.more fits ∙ ap placed_of run_is; limbs = b ∙ limbs_passed mode p negative unit f.carry t f.guard f.more fits ∙ ap (limbs_after p) run_is }
+
+    -- the same with the depth, and the limbs used
+    pub depth_told : {exit : List ℕ} {placed : Placed} {i j : ℕ} → Left p (add o p z w) exit placed
+        → (i ≡ used_of f.depth 0 (length first)) × (j ≡ used_of f.depth pair.gap (length second)) → Attempted o p z w exit negative placed f.depth i j
+    depth_told left c =
+        fixed_told p (digits_some p (length t) room) pair first second z w h o rounds.some rounds.near rounds.fixed rounds.first left (rw (sign, rounds.answer) (rounded_signed _ _ _ _ _)) c
+
     pub in_order_told : {exit : List ℕ} {placed : Placed} {i j : ℕ} → placed ≡ rounded_placed mode p negative unit f.carry t f.guard f.more → exit ≡ rounded_limbs mode p negative unit f.carry t f.guard f.more
         → (i ≡ used_of f.depth 0 (length first)) × (j ≡ used_of f.depth pair.gap (length second)) → Attempted o p z w exit negative placed f.depth i j
-    in_order_told a b c =
-        fixed_told p (digits_some p (length t) room) pair first second z w h o rounds.some rounds.near rounds.fixed rounds.first
-        (record { told = a ∙ placed_passed mode p negative unit f.carry t f.guard f.more fits ∙ ap placed_of run_is; limbs = b ∙ limbs_passed mode p negative unit f.carry t f.guard f.more fits ∙ ap (limbs_after p) run_is })
-        (rw (sign, rounds.answer) (rounded_signed _ _ _ _ _)) c
+    in_order_told a b c = depth_told (left_told a b) c
 
 -- ---- what the code asks
 

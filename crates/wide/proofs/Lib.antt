@@ -4,3 +4,4 @@ pub mod Level
 pub mod GuardBelow
 pub mod InOrder
 pub mod InHollow
+pub mod Offering

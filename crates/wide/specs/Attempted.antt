@@ -31,3 +31,7 @@ abbrev pub AttemptsInOrder : Mode → ℕ → Bool → Pair → Bool → List �
 AttemptsInOrder o p negative pair swapped first second exit r =
     IfSome r (λ a. (x y : Operand) → Holding x y pair first second → negative ≡ x.negative
     → Attempted o p x y exit a.negative a.placed a.depth (cond swapped a.second a.first) (cond swapped a.first a.second))
+
+-- the sum of all operands that are so held, where the first has that sign, is answered, and stands in the target
+abbrev pub Answers : Mode → ℕ → Bool → Pair → List ℕ → List ℕ → List ℕ → Placed → Type 0
+Answers o p negative pair first second exit r = (x y : Operand) → Holding x y pair first second → negative ≡ x.negative → Left p (add o p x y) exit r

@@ -6,10 +6,11 @@ ghost use Rattle.walk.specs.declared.state.Window.{Window};
 ghost use Rattle.settle.specs.Rows.{Modest};
 ghost use Rattle.checks.specs.Room.{Room};
 ghost use Rattle.descent.specs.Course.{Full, Inside};
-ghost use Rattle.wide.specs.Filling.{Offered, Promptly, Fills};
+ghost use Rattle.wide.specs.Filling.{Promptly, Fills};
 
 use crate::below::{is_hollow, is_read, more_below};
 use crate::filling::Filled;
+use crate::order::Operands;
 use settle::Pair;
 
 // Whether a borrow from below leaves something in the top limb.
@@ -81,19 +82,14 @@ pub fn glance_full(p: u64, pair: Pair, carry: bool, target: &[u64]) -> Option<Fi
 }
 
 // Fills the target with as many columns as it has limbs.
-pub fn fill_exactly(
-    p: u64,
-    pair: Pair,
-    first: &[u64],
-    second: &[u64],
-    target: &mut [u64],
-) -> Option<Filled>
-    requires { Room p (length target.old) × Offered pair first.now second.now }
-    ensures { (length target.new ≡ length target.old) × Fills p pair first.now second.now target.new result }
+pub fn fill_exactly(p: u64, order: &Operands, target: &mut [u64]) -> Option<Filled>
+    requires { Room p (length target.old) }
+    ensures { (length target.new ≡ length target.old) × Fills p order.now.pair order.now.first.now order.now.second.now target.new result }
 {
-    if !descent::is_prompt(pair, first.len(), second.len(), 0, target.len()) {
+    let pair = order.pair;
+    if !descent::is_prompt(pair, order.first.len(), order.second.len(), 0, target.len()) {
         return None;
     }
-    let w = descent::fill(pair, first, second, 0, target);
+    let w = descent::fill(pair, order.first, order.second, 0, target);
     glance_full(p, pair, w.carry, target)
 }

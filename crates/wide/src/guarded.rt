@@ -4,11 +4,12 @@ ghost use Rattle.std.specs.Float.Ieee.{size};
 ghost use Rattle.settle.specs.Rows.{Modest};
 ghost use Rattle.checks.specs.Room.{Room};
 ghost use Rattle.descent.specs.Course.{Inland};
-ghost use Rattle.wide.specs.Filling.{Offered, Fills};
+ghost use Rattle.wide.specs.Filling.{Fills};
 ghost use Rattle.wide.specs.Guarding.{Spent, Guards};
 
 use crate::below::{is_read, more_below};
 use crate::filling::Filled;
+use crate::order::Operands;
 use settle::Pair;
 
 // Whether the last digits of the guard, as many as the top limb has, the first of them left out, are neither all zeros nor all ones.
@@ -61,29 +62,24 @@ fn reaches_on(pair: Pair, second: usize, n: u64) -> bool
 }
 
 // Fills the target with as many columns as it has limbs, and reads one more.
-pub fn fill_guarded(
-    p: u64,
-    pair: Pair,
-    first: &[u64],
-    second: &[u64],
-    target: &mut [u64],
-) -> Option<Filled>
-    requires { Room p (length target.old) × Offered pair first.now second.now × Spent p pair (length target.old) }
-    ensures { (length target.new ≡ length target.old) × Fills p pair first.now second.now target.new result }
+pub fn fill_guarded(p: u64, order: &Operands, target: &mut [u64]) -> Option<Filled>
+    requires { Room p (length target.old) × Spent p order.now.pair (length target.old) }
+    ensures { (length target.new ≡ length target.old) × Fills p order.now.pair order.now.first.now order.now.second.now target.new result }
 {
     let n = target.len() as u64;
-    if !descent::is_prompt(pair, first.len(), second.len(), 0, target.len()) {
+    let pair = order.pair;
+    if !descent::is_prompt(pair, order.first.len(), order.second.len(), 0, target.len()) {
         return None;
     }
-    if !reaches_on(pair, second.len(), n) {
+    if !reaches_on(pair, order.second.len(), n) {
         return None;
     }
     let run = leap::guarded_columns(
         pair.same,
         target,
-        first,
+        order.first,
         pair.first,
-        second,
+        order.second,
         pair.second,
         pair.gap,
         n,

@@ -13,13 +13,13 @@ overflow_mul-target c =
     let w = limbs_weigh c.args.p _ (room_kept _ _ _ c.fill-guard.auto.target c.requires.room) in
     omega (arith, w)
 
-pub overflow_sub-pair : goal.overflow_sub-pair
-overflow_sub-pair c =
-    far_unit c.args.p _ c.args.first.now c.args.target.now c.requires _ _ (λ i. (c.slice_known-2-1.given i).fits) c.fill-guard.ensures
+pub overflow_sub-order : goal.overflow_sub-order
+overflow_sub-order c =
+    far_unit c.args.p _ c.args.order.now.first.now c.args.target.now c.requires _ _ (λ i. (c.slice_known-2-1.given i).fits) c.fill-guard.ensures
 
 pub round_fit-requires : goal.round_fit-requires
 round_fit-requires c =
-    far_fit c.args.p _ c.args.first.now c.args.target.now c.requires _ _ (λ i. (c.slice_known-2-1.given i).fits) c.fill-guard.ensures
+    far_fit c.args.p _ c.args.order.now.first.now c.args.target.now c.requires _ _ (λ i. (c.slice_known-2-1.given i).fits) c.fill-guard.ensures
 
 pub returns : goal.returns
 returns c =

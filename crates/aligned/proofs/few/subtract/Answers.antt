@@ -11,14 +11,14 @@ pub is_low-requires : goal.is_low-requires
 is_low-requires c = (top_modest _ _ _ _ c.requires.1 c.requires.3, omega (arith, c.requires.0.1))
 
 pub difference-d-requires : goal.difference-d-requires
-difference-d-requires c = lengths_told c.args.x c.args.xl.now c.args.y c.args.yl.now _ c.requires.0 c.requires.1
+difference-d-requires c = lengths_told c.args.x.number c.args.x.limbs.now c.args.y.number c.args.y.limbs.now _ c.requires.0 c.requires.1
 
 pub returns-then-d : goal.returns-then-d
 returns-then-d c =
     let d = c.difference-d in
     let r = c.cancelled in
-    let k = few_cancels c.args.x c.args.xl.now c.args.y c.args.yl.now _ c.requires.1 c.requires.2 d.result d.ensures c.if-d.true in
-    (r.ensures.0, λ p room h l. r.ensures.1 p _ _ room k (sign_is c.args.x c.args.xl.now) (sign_is c.args.y c.args.yl.now))
+    let k = few_cancels c.args.x.number c.args.x.limbs.now c.args.y.number c.args.y.limbs.now _ c.requires.1 c.requires.2 d.result d.ensures c.if-d.true in
+    (r.ensures.0, λ p room h l. r.ensures.1 p _ _ room k (sign_is c.args.x.number c.args.x.limbs.now) (sign_is c.args.y.number c.args.y.limbs.now))
 
 pub normalize-r-requires : goal.normalize-r-requires
 normalize-r-requires c =
@@ -33,4 +33,4 @@ returns c =
     let some = difference_some d.result.high d.result.low c.if-d.false in
     let r = c.normalize-r in
     let w = c.write in
-    (w.ensures.0, few_told c.args.x c.args.xl.now c.args.y c.args.yl.now c.args.target.now c.args.top c.requires.1 c.requires.2 c.requires.3 d.result d.ensures some calm c.requires.0 r.result r.ensures (search rules) (search rules) _ w.ensures.0 (λ i. (c.type_inv.target i).fits) w.ensures.1 c.args.mode)
+    (w.ensures.0, few_told c.args.x.number c.args.x.limbs.now c.args.y.number c.args.y.limbs.now c.args.target.now c.args.top c.requires.1 c.requires.2 c.requires.3 d.result d.ensures some calm c.requires.0 r.result r.ensures (search rules) (search rules) _ w.ensures.0 (λ i. (c.type_inv.target i).fits) w.ensures.1 c.args.mode)

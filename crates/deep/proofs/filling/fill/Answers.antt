@@ -8,6 +8,7 @@ use Rattle.remnant.specs.Rest.{RestAt}
 use Rattle.settle.specs.Rows.{Modest}
 use Rattle.descent.proofs.JudgingRange.{digits_some}
 use Rattle.numbers.proofs.Limits.{two_digits}
+use Rattle.wide.proofs.Offering.{offered}
 use Rattle.wide.proofs.FullTarget.{offered_modest}
 use Rattle.deep.proofs.FillingTarget.{one_limb, digits_below, first_some, second_some, tops_ordered, Tested, first_fills, last_fills}
 use Rattle.deep.proofs.filling.fill.Goals as goal
@@ -18,38 +19,38 @@ near n = omega arith
 -- ---- no refusal is near
 pub inner_of-stop-requires : goal.inner_of-stop-requires
 inner_of-stop-requires c =
-    let modest : Modest c.args.pair 1 = offered_modest c.args.p _ c.args.first.now c.args.second.now c.requires.1 _ 1 c.requires.0 (near _) in
-    (modest, c.requires.3)
+    let modest : Modest c.args.order.now.pair 1 = offered_modest c.args.p _ c.args.order.now.first.now c.args.order.now.second.now (offered c.args.order.now) _ 1 c.requires.0 (near _) in
+    (modest, c.requires.2)
 
 pub is_inland-requires : goal.is_inland-requires
 is_inland-requires c =
-    let modest : Modest c.args.pair 1 = offered_modest c.args.p _ c.args.first.now c.args.second.now c.requires.1 _ 1 c.requires.0 (near _) in
+    let modest : Modest c.args.order.now.pair 1 = offered_modest c.args.p _ c.args.order.now.first.now c.args.order.now.second.now (offered c.args.order.now) _ 1 c.requires.0 (near _) in
     let m = modest in
     (m.top, omega (arith, m.first, c.inner_of-stop.ensures.first))
 
 -- ---- the first column
 pub overflow_sub-u : goal.overflow_sub-u
 overflow_sub-u c =
-    let first_limbs : 0 < length c.args.first.now = first_some _ _ _ _ _ c.requires.1.holding in
+    let first_limbs : 0 < length c.args.order.now.first.now = first_some _ _ _ _ _ c.args.order.now.held in
     omega (arith, first_limbs)
 
-pub bounds-first-first : goal.bounds-first-first
-bounds-first-first c =
-    let first_limbs : 0 < length c.args.first.now = first_some _ _ _ _ _ c.requires.1.holding in
+pub bounds-order-order : goal.bounds-order-order
+bounds-order-order c =
+    let first_limbs : 0 < length c.args.order.now.first.now = first_some _ _ _ _ _ c.args.order.now.held in
     omega (arith, first_limbs)
 
 pub overflow_sub-v : goal.overflow_sub-v
 overflow_sub-v c =
-    let second_limbs : 0 < length c.args.second.now = second_some _ _ _ _ _ c.requires.1.holding in
+    let second_limbs : 0 < length c.args.order.now.second.now = second_some _ _ _ _ _ c.args.order.now.held in
     omega (arith, second_limbs)
 
-pub bounds-second-second : goal.bounds-second-second
-bounds-second-second c =
-    let second_limbs : 0 < length c.args.second.now = second_some _ _ _ _ _ c.requires.1.holding in
+pub bounds-order-order-2 : goal.bounds-order-order-2
+bounds-order-order-2 c =
+    let second_limbs : 0 < length c.args.order.now.second.now = second_some _ _ _ _ _ c.args.order.now.held in
     omega (arith, second_limbs)
 
 pub begin-begun-requires : goal.begin-begun-requires
-begin-begun-requires c = tops_ordered _ _ _ _ _ c.requires.1.holding
+begin-begun-requires c = tops_ordered _ _ _ _ _ c.args.order.now.held
 
 pub rest_kept-x-requires : goal.rest_kept-x-requires
 rest_kept-x-requires c =
@@ -58,13 +59,13 @@ rest_kept-x-requires c =
 
 pub filled-requires : goal.filled-requires
 filled-requires c =
-    let one : length c.args.target.now ≡ 1 = one_limb c.args.p _ c.requires.0 c.requires.2 in
+    let one : length c.args.target.now ≡ 1 = one_limb c.args.p _ c.requires.0 c.requires.1 in
     one
 
 pub returns-then-is_settled : goal.returns-then-is_settled
 returns-then-is_settled c =
-    let one : length c.args.target.now ≡ 1 = one_limb c.args.p _ c.requires.0 c.requires.2 in
-    let tested : Tested c.args.mode c.args.negative c.args.p c.args.pair c.args.first.now c.args.second.now c.inner_of-stop.result c.begin-begun.result c.is_settled.result = record {
+    let one : length c.args.target.now ≡ 1 = one_limb c.args.p _ c.requires.0 c.requires.1 in
+    let tested : Tested c.args.mode c.args.order.now.negative c.args.p c.args.order.now.pair c.args.order.now.first.now c.args.order.now.second.now c.inner_of-stop.result c.begin-begun.result c.is_settled.result = record {
       positive = digits_some c.args.p _ c.requires.0;
       inner = c.inner_of-stop.ensures;
       inland = c.is_inland.ensures (c.if-not-is_inland.false);
@@ -81,13 +82,13 @@ returns-then-is_settled c =
 
 pub filled-requires-2 : goal.filled-requires-2
 filled-requires-2 c =
-    let one : length c.args.target.now ≡ 1 = one_limb c.args.p _ c.requires.0 c.requires.2 in
+    let one : length c.args.target.now ≡ 1 = one_limb c.args.p _ c.requires.0 c.requires.1 in
     one
 
 pub returns : goal.returns
 returns c =
-    let one : length c.args.target.now ≡ 1 = one_limb c.args.p _ c.requires.0 c.requires.2 in
-    let tested : Tested c.args.mode c.args.negative c.args.p c.args.pair c.args.first.now c.args.second.now c.inner_of-stop.result c.begin-begun.result c.is_settled.result = record {
+    let one : length c.args.target.now ≡ 1 = one_limb c.args.p _ c.requires.0 c.requires.1 in
+    let tested : Tested c.args.mode c.args.order.now.negative c.args.p c.args.order.now.pair c.args.order.now.first.now c.args.order.now.second.now c.inner_of-stop.result c.begin-begun.result c.is_settled.result = record {
       positive = digits_some c.args.p _ c.requires.0;
       inner = c.inner_of-stop.ensures;
       inland = c.is_inland.ensures (c.if-not-is_inland.false);
@@ -100,4 +101,4 @@ returns c =
       tests = c.is_settled.ensures;
     } in
     let stored = c.filled-2.ensures in
-    (ap length stored.limbs ∙ sym one, last_fills _ _ _ _ _ _ _ _ _ tested c.requires.1 c.read_on-r.result c.read_on-r.ensures (not-false _ c.if-not-r.false) c.if-is_settled.false _ _ stored)
+    (ap length stored.limbs ∙ sym one, last_fills _ _ _ _ _ _ _ _ _ tested (offered c.args.order.now) c.read_on-r.result c.read_on-r.ensures (not-false _ c.if-not-r.false) c.if-is_settled.false _ _ stored)
