@@ -48,7 +48,7 @@ fn short_least(way: Way, digits: u64, ones: bool, p: u64, half: bool) -> bool
     }
 }
 
-// And of the greatest, which has D and then `tail` ones.
+// And of the greatest, which has D and then `tail` ones: other tests than those of the least.
 fn short_most(way: Way, digits: u64, ones: bool, p: u64, tail: u64) -> bool
     requires { (digits ≤ 2 ^ 30) × (tail ≤ 2 ^ 20) }
     ensures { (D : ℕ) → digits ≡ size D → Ones p D ones → enough (theory_way way) p D ≡ false → bit result ≡ short_most (theory_way way) p D tail }

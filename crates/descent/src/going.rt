@@ -234,7 +234,7 @@ fn step(pair: Pair, first: &[u64], second: &[u64], w: Window, k: u64, target: &m
     }
 }
 
-// Walks on after k columns that fix nothing.
+// Walks on after k columns that fix nothing. It calls itself, so that no invariant of a loop says its contract once more.
 fn descend(
     way: Way,
     p: u64,

@@ -72,7 +72,7 @@ pub fn settled_plus(way: Way, x: Rest, least: bool, next: bool, most: bool) -> b
     low == leans(way, x, most)
 }
 
-// The least lies just above the unit below D; the greatest is D, and more if `most`.
+// The least lies just above the unit below D; the greatest is D, and more if `most`. It tests neither a next unit nor what the least has, so it stands on its own.
 pub fn settled_minus(way: Way, x: Rest, most: bool) -> bool
     ensures { (p D : ℕ) → RestOf p D x → 0 < p → result ≡ settled (theory_way way) p (D - 1) true 1 most }
 {

@@ -112,7 +112,7 @@ pub fn leap_sum(
     shown(0, carry, target.len())
 }
 
-// The columns of a difference, of which the first `from` are alike.
+// The columns of a difference, of which the first `from` are alike: a sum has none that are passed over, and may carry.
 pub fn leap_difference(
     target: &mut [u64],
     first: &[u64],

@@ -7,7 +7,7 @@ use crate::digits::digits_of;
 use walk::{Tail, Window};
 
 // Of a rest r of so many digits, u being 2 to their number: whether there are p digits above it, whether it is empty, whether r is 0, u - 1, u/2 - 1, u/2 or
-// more than u/2, and whether the last digit kept is 1.
+// more than u/2, and whether the last digit kept is 1. Eight tests rather than one location: those of the next unit are made of them too.
 #[derive(Clone, Copy)]
 pub struct Rest {
     pub enough: bool,

@@ -10,6 +10,7 @@ ghost use Rattle.walk.specs.Append.{Appended, Summed, Led, Differed};
 use crate::change::{Change, change_at, pass_limb};
 use crate::tail::pass_tail;
 
+// Four states with laws of their own: none of them is a value that is missing.
 #[derive(Clone, Copy)]
 pub enum Tail {
     Empty,
@@ -134,7 +135,7 @@ fn lead(w: Window, target: &mut [u64], low: u64, borrow: bool) -> Window
     append(here, target, low, None)
 }
 
-// The next column of a difference.
+// The next column of a difference. It stands beside that of a sum, since it may keep no limb, and asks for no room.
 pub fn append_difference(w: Window, target: &mut [u64], a: u64, b: u64) -> Window
     requires { Fits w target.old × (w.skipped + 1 < 2 ^ 64) }
     ensures { Differed w a b target.old result target.new }
