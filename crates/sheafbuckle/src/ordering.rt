@@ -39,6 +39,7 @@ fn retold(o: PlainOrder) -> PlainOrder
 }
 
 // An order without a refusal.
+#[tactic(auto, unfolding(plain::specs::Answers::order_told))]
 fn told(order: Ordering) -> PlainOrder
     ensures { result ≡ order_told (Ok order) }
 {
