@@ -58,32 +58,35 @@ pub fn locate(low: u64, guard: u64, width: u64, more: bool) -> Location
     }
 }
 
-// Whether the last unit is added.
+// Whether the last unit is added. By tests and not by one match of both, of which the compiler makes tables of jumps: a sum of one limb then misses its bar.
 #[tactic(auto, unfolding(crate::specs::Location::goes_up, rounding::specs::Mode::way))]
 pub fn rounds_up(mode: Mode, negative: bool, at: Location, odd: bool) -> bool
     ensures { result ≡ goes_up (way mode negative) at odd }
 {
-    match (mode, at) {
-        (_, Location::Exact) => false,
-        (Mode::Nearest, Location::Lower) => false,
-        (Mode::Nearest, Location::Tie) => odd,
-        (Mode::Nearest, Location::Upper) => true,
-        (Mode::Zeroward, _) => false,
-        (Mode::Upward, _) => !negative,
-        (Mode::Downward, _) => negative,
+    if mode == Mode::Nearest {
+        return match at {
+            Location::Exact | Location::Lower => false,
+            Location::Tie => odd,
+            Location::Upper => true,
+        };
+    }
+    if at == Location::Exact {
+        return false;
+    }
+    match mode {
+        Mode::Upward => !negative,
+        Mode::Downward => negative,
+        _ => false,
     }
 }
 
-// The ternary value: the sign of selected minus exact.
+// The ternary value: the sign of selected minus exact; by tests for the same reason.
 #[tactic(auto, unfolding(crate::specs::Ternary::ternary_of, rounding::specs::Answer::signed, crate::specs::Location::side, crate::specs::Location::inexact))]
 pub fn ternary(negative: bool, at: Location, up: bool) -> i8
     ensures { result ≡ ternary_of (signed negative (side at up)) }
 {
-    match (at, negative, up) {
-        (Location::Exact, _, _) => 0,
-        (_, false, true) => 1,
-        (_, true, false) => 1,
-        (_, false, false) => -1,
-        (_, true, true) => -1,
+    if at == Location::Exact {
+        return 0;
     }
+    if negative == up { -1 } else { 1 }
 }
