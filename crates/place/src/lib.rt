@@ -79,7 +79,9 @@ pub fn round_exact(target: &mut [u64], unit: u64, precision: u64) -> Placed
     settle(target, unit + precision + offset + spare, 0)
 }
 
-// Rounds a run of one limb whose first digit is 1 as `round_fit` does, by value, so that the quick ways keep it in registers.
+// Rounds a run of one limb whose first digit is 1 as `round_fit` does, by value, so that the quick ways keep it in registers: it stands in each
+// of them, since a call would take what it tells through memory.
+#[inline(always)]
 pub fn round_limb(
     negative: bool,
     limb: u64,
