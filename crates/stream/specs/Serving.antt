@@ -5,6 +5,7 @@ use Rattle.checks.specs.declared.Place.TheVariants.{Second, Target}
 use Rattle.desklines.specs.Answer.{Answered, longest_answer}
 use Rattle.cutting.specs.declared.Lines.{Lines}
 use Rattle.cutting.specs.Held.{counts_in}
+use Rattle.stream.specs.declared.serving.Held.{Held as Lent}
 use Rattle.stream.specs.declared.serving.Served.{Served}
 use Rattle.cutting.specs.Lines.{line_room}
 use Rattle.cutting.specs.Group.{Group, Held, no_group, is_whole, after, taken, group_in, held_of}
@@ -20,6 +21,10 @@ pub record State : Type 0 where
 -- what the lent lines hold
 abbrev pub state_of : Lines → State
 state_of g = record { held = counts_in g; first = g.first.bytes.now; second = g.second.bytes.now; third = g.third.bytes.now }
+
+-- what slices hold that are lent with counts beside them
+abbrev pub state_held : Lent → List ℕ → List ℕ → List ℕ → State
+state_held h first second third = record { held = record { lines = h.lines; first = h.first; second = h.second; third = h.third }; first = first; second = second; third = third }
 
 unfoldable pub group_of : State → Group
 group_of s = group_in s.held s.first s.second s.third

@@ -6,4 +6,4 @@ mod answering; // answering.rt: the answer of a group, two numbers and what is a
 mod serving; // serving.rt: pieces taken, answers printed
 
 pub use answering::answer;
-pub use serving::{Served, finish, serve};
+pub use serving::{Held, Served, finish, finish_held, serve};

@@ -4,7 +4,7 @@ ghost use Rattle.desklines.specs.Written.{Answers, Tells};
 ghost use Rattle.desklines.specs.Answer.{longest_answer};
 ghost use Rattle.cutting.specs.Held.{SameBuffers};
 ghost use Rattle.stream.specs.Desk.{cut_short};
-ghost use Rattle.stream.specs.Serving.{state_of, is_ready, ServedBy, Finished};
+ghost use Rattle.stream.specs.Serving.{state_of, state_held, is_ready, ServedBy, Finished};
 
 use crate::answering::answer;
 use checks::{Place, Refusal, Rule};
@@ -17,25 +17,53 @@ pub struct Served {
     pub told: usize,
 }
 
+// How many lines of a group are whole, and how many bytes of each line are held, of buffers that are lent to be read.
+#[derive(Clone, Copy)]
+pub struct Held {
+    pub lines: usize,
+    pub first: usize,
+    pub second: usize,
+    pub third: usize,
+}
+
 // No group is whole yet, the buffers have their size, and there is room for any answer.
-fn ready(lines: &Lines, out: &[u8]) -> bool
-    ensures { result ≡ is_ready (state_of lines.now) out.now }
+fn ready_held(held: Held, first: &[u8], second: &[u8], third: &[u8], out: &[u8]) -> bool
+    ensures { result ≡ is_ready (state_held held first.now second.now third.now) out.now }
 {
     let room = line_room();
     let most = desklines::longest_answer();
-    if 3 <= lines.whole {
+    if 3 <= held.lines {
         return false;
     }
-    if lines.first.bytes.len() != room {
+    if first.len() != room {
         return false;
     }
-    if lines.second.bytes.len() != room {
+    if second.len() != room {
         return false;
     }
-    if lines.third.bytes.len() != room {
+    if third.len() != room {
         return false;
     }
     most <= out.len()
+}
+
+// The same of lines that are lent to be written.
+fn ready(lines: &Lines, out: &[u8]) -> bool
+    ensures { result ≡ is_ready (state_of lines.now) out.now }
+{
+    let held = Held {
+        lines: lines.whole,
+        first: lines.first.held,
+        second: lines.second.held,
+        third: lines.third.held,
+    };
+    ready_held(
+        held,
+        &*lines.first.bytes,
+        &*lines.second.bytes,
+        &*lines.third.bytes,
+        out,
+    )
 }
 
 // The answer of a whole group that is held.
@@ -99,27 +127,59 @@ fn cut_short(missing: Place, out: &mut [u8]) -> usize
     )
 }
 
-// What is printed at the end of the input.
-pub fn finish(lines: &Lines, out: &mut [u8]) -> usize
-    ensures { Finished (state_of lines.now) out.old out.new result }
+// The bytes of a line that are held, counted within its buffer.
+fn part(line: &[u8], held: usize) -> &[u8]
+    ensures { result.now ≡ take held line.now }
 {
-    if !ready(lines, out) {
+    let end = held.min(line.len());
+    &line[..end]
+}
+
+// What is printed at the end of the input, of lines in buffers that are lent to be read.
+pub fn finish_held(held: Held, first: &[u8], second: &[u8], third: &[u8], out: &mut [u8]) -> usize
+    ensures { Finished (state_held held first.now second.now third.now) out.old out.new result }
+{
+    if !ready_held(held, first, second, third, out) {
         return 0;
     }
-    if lines.whole == 0 {
-        if lines.first.held == 0 {
+    if held.lines == 0 {
+        if held.first == 0 {
             return 0;
         }
         return cut_short(Place::Second, out);
     }
-    if lines.whole == 1 {
-        if lines.second.held == 0 {
+    if held.lines == 1 {
+        if held.second == 0 {
             return cut_short(Place::Second, out);
         }
         return cut_short(Place::Target, out);
     }
-    if lines.third.held == 0 {
+    if held.third == 0 {
         return cut_short(Place::Target, out);
     }
-    answer_held(lines, out)
+    answer(
+        part(first, held.first),
+        part(second, held.second),
+        part(third, held.third),
+        out,
+    )
+}
+
+// What is printed at the end of the input.
+pub fn finish(lines: &Lines, out: &mut [u8]) -> usize
+    ensures { Finished (state_of lines.now) out.old out.new result }
+{
+    let held = Held {
+        lines: lines.whole,
+        first: lines.first.held,
+        second: lines.second.held,
+        third: lines.third.held,
+    };
+    finish_held(
+        held,
+        &*lines.first.bytes,
+        &*lines.second.bytes,
+        &*lines.third.bytes,
+        out,
+    )
 }
