@@ -4,6 +4,7 @@
 //       1 b b b b b b b b b b b            a carry: one bit down
 //           0 0 1 b b b b b b b            none: up, as far as there are zeros
 //
+// What is marked `inline(always)` stands in each of the quick ways, as `round_limb` does.
 // The arguments and what is asked of them stand in docs/PROMISES.md: a type that held them with those facts would ask more of a caller.
 //
 ghost use Rattle.std.specs.Prelude.{◌≡◌, Bool, true, false, not, ◌||◌, [], ◌∷◌, ℕ, ◌+◌, ◌-◌, ◌*◌, ◌/◌, ◌%◌, ◌^◌, ◌≤◌, ◌<◌, eqb};
@@ -104,6 +105,7 @@ fn lower(carry: bool, limb: u64, more: bool, unit: u64) -> Normal
 }
 
 // Rounds a run of one limb without a guard as `round_one` does, where its first digit is the carry or the limb's first, and the limb has two digits to spare.
+#[inline(always)]
 pub fn round_carried(
     negative: bool,
     carry: bool,
@@ -122,6 +124,7 @@ pub fn round_carried(
 }
 
 // Rounds a run of one limb without a carry as `round_one` does: it never goes down.
+#[inline(always)]
 pub fn round_raised(
     negative: bool,
     limb: u64,

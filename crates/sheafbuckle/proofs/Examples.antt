@@ -9,7 +9,9 @@ use Rattle.std.specs.Prelude.{Result, Ok, Err}
 use Rattle.std.specs.declared.cmp.Ordering.TheVariants.{Less, Equal, Greater}
 use Rattle.checks.specs.declared.Refusal.{Refusal}
 use Rattle.checks.specs.declared.Rule.TheVariants.{Precision, Limbs, TooLarge, DoubleTooLarge}
+use Rattle.checks.specs.declared.Rule.TheVariants as rules
 use Rattle.checks.specs.declared.Place.TheVariants.{Call, First, Target}
+use Rattle.checks.specs.declared.Place.TheVariants as places
 use Rattle.checks.specs.Number.{is_zero_kind, nothing}
 use Rattle.checks.specs.Refusal.{rule_number, place_number}
 use Rattle.order.specs.Order.{number_of}
@@ -31,6 +33,15 @@ none = record { precision = 5; exponent = pos 0; negative = false; zero = true }
 -- what is told of a number that is refused
 abbrev refused_number : PlainNumber
 refused_number = record { precision = 2; exponent = pos 0; negative = false; zero = true }
+
+-- the refusal numbers: each rule's and each place's
+pub rules_numbered : map rule_number (rules.Mode ∷ rules.Precision ∷ rules.Limbs ∷ rules.Exponent ∷ rules.Form ∷ rules.TooLarge ∷ rules.TooSmall ∷ rules.LineSize ∷ rules.LineByte ∷ rules.LineKind ∷ rules.Operation ∷ rules.DoubleTooLarge ∷ rules.DoubleTooSmall ∷ rules.NoNumber ∷ []) ≡ 1 ∷ 2 ∷ 3 ∷ 4 ∷ 5 ∷ 6 ∷ 7 ∷ 8 ∷ 9 ∷ 10 ∷ 11 ∷ 12 ∷ 13 ∷ 14 ∷ []
+unfolding rule_number
+rules_numbered = refl
+
+pub places_numbered : map place_number (places.Call ∷ places.First ∷ places.Second ∷ places.Target ∷ []) ≡ 0 ∷ 1 ∷ 2 ∷ 3 ∷ []
+unfolding place_number
+places_numbered = refl
 
 pub numbers_said : map number_from (minus ∷ none ∷ []) ≡ record { negative = true; kind = Regular; precision = 4; exponent = negsuc 0 } ∷ record { negative = false; kind = Zero; precision = 5; exponent = pos 0 } ∷ []
 unfolding number_from kind_from
