@@ -11,12 +11,28 @@ ghost use Rattle.wide.specs.Attempted.{Attempted};
 ghost use Rattle.aligned.specs.Lower.{Lower, Lowered};
 
 use choice::either;
-use place::Placed;
-use rounding::Mode;
+use place::{Placed, by_fields};
+use rounding::{AsMode, Mode};
 use wide::Attempt;
 
 // What the lower limbs leave of a difference, rounded to a target of one limb: no column but the second fixes it.
-pub fn subtract_lower(
+pub fn subtract_lower<M: AsMode>(
+    mode: M,
+    negative: bool,
+    p: u64,
+    top: u64,
+    u: u64,
+    v: u64,
+    target: &mut [u64],
+) -> Attempt
+    requires { Room p (length target.old) × (length target.old ≡ 1) × Lowered u v top }
+    ensures { (length target.new ≡ length target.old) × ((x y : Operand) → Lower x y u v top → negative ≡ x.negative → Attempted (M.mode_in mode) p x y target.new result.negative result.placed result.depth result.first result.second) }
+{
+    subtract_lower_under(mode.as_mode(), negative, p, top, u, v, target)
+}
+
+// The same under a mode.
+fn subtract_lower_under(
     mode: Mode,
     negative: bool,
     p: u64,
@@ -48,7 +64,7 @@ pub fn subtract_lower(
     let placed = place::round_fit(sign, false, target, 0, false, top - 192, p, mode);
     Attempt {
         negative: sign,
-        placed,
+        placed: by_fields(placed),
         depth: 2,
         first: 2,
         second: 2,

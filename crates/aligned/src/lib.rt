@@ -24,8 +24,8 @@ mod level; // level.rt: two limbs each that are alike in the upper one, into one
 use checks::Regular;
 use choice::either;
 pub use level::subtract_lower;
-use place::Placed;
-use rounding::Mode;
+use place::{Placed, by_fields};
+use rounding::{AsMode, Mode};
 use wide::Attempt;
 
 // How many limbs at the top of two runs of one length are alike.
@@ -97,7 +97,7 @@ fn round_whole(
     );
     Attempt {
         negative,
-        placed,
+        placed: by_fields(placed),
         depth: n,
         first: n,
         second: n,
@@ -114,7 +114,7 @@ fn settle_whole(negative: bool, skipped: u64, top: u64, p: u64, target: &mut [u6
     let placed = place::round_exact(target, unit, p);
     Attempt {
         negative,
-        placed,
+        placed: by_fields(placed),
         depth: n,
         first: n,
         second: n,
@@ -194,7 +194,21 @@ fn subtract_any(
 }
 
 // Adds two regular numbers of one exponent that have as many limbs as the target.
-pub fn attempt(mode: Mode, x: Regular, y: Regular, p: u64, target: &mut [u64]) -> Option<Attempt>
+pub fn attempt<M: AsMode>(
+    mode: M,
+    x: Regular,
+    y: Regular,
+    p: u64,
+    target: &mut [u64],
+) -> Option<Attempt>
+    requires { (x.number.exponent ≡ y.number.exponent) × (length x.limbs.now ≡ length target.old) × (length y.limbs.now ≡ length target.old) × Room p (length target.old) }
+    ensures { (length target.new ≡ length target.old) × Attempts (M.mode_in mode) p (regular x.entry) (regular y.entry) target.new result }
+{
+    attempt_under(mode.as_mode(), x, y, p, target)
+}
+
+// The same under a mode.
+fn attempt_under(mode: Mode, x: Regular, y: Regular, p: u64, target: &mut [u64]) -> Option<Attempt>
     requires { (x.number.exponent ≡ y.number.exponent) × (length x.limbs.now ≡ length target.old) × (length y.limbs.now ≡ length target.old) × Room p (length target.old) }
     ensures { (length target.new ≡ length target.old) × Attempts mode p (regular x.entry) (regular y.entry) target.new result }
 {

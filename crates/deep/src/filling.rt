@@ -8,7 +8,7 @@ ghost use Rattle.deep.specs.Reading.{FrontFilled};
 
 use crate::reading::{is_settled, read_on};
 use front::Front;
-use rounding::Mode;
+use rounding::{AsMode, Mode};
 use settle::Pair;
 use wide::{Filled, Operands};
 
@@ -41,7 +41,15 @@ fn filled(front: Front, more: bool, depth: u64, target: &mut [u64]) -> Filled
 }
 
 // Fills a target of one limb, where a column after the first is seen to fix the answer, or the first does.
-pub fn fill(mode: Mode, p: u64, order: &Operands, target: &mut [u64]) -> Option<Filled>
+pub fn fill<M: AsMode>(mode: M, p: u64, order: &Operands, target: &mut [u64]) -> Option<Filled>
+    requires { Room p (length target.old) × (p ≤ 62) × Deep order.now.pair }
+    ensures { (length target.new ≡ length target.old) × FillsBy (M.mode_in mode) order.now.negative p order.now.pair order.now.first.now order.now.second.now target.new result }
+{
+    fill_under(mode.as_mode(), p, order, target)
+}
+
+// The same under a mode.
+fn fill_under(mode: Mode, p: u64, order: &Operands, target: &mut [u64]) -> Option<Filled>
     requires { Room p (length target.old) × (p ≤ 62) × Deep order.now.pair }
     ensures { (length target.new ≡ length target.old) × FillsBy mode order.now.negative p order.now.pair order.now.first.now order.now.second.now target.new result }
 {

@@ -17,7 +17,7 @@ ghost use Rattle.descent.specs.Finishing.{Cleared, Ending, Left, HoleSays};
 
 use crate::going::{Verdict, Walked};
 use place::Placed;
-use rounding::Mode;
+use rounding::{AsMode, Mode};
 use settle::Pair;
 use walk::{Tail, Window};
 
@@ -142,7 +142,22 @@ fn refuse(rule: u8, target: &mut [u64]) -> Placed
 }
 
 // Rounds where the walk ended.
-pub fn finish(
+pub fn finish<M: AsMode>(
+    mode: M,
+    negative: bool,
+    p: u64,
+    pair: Pair,
+    walked: Walked,
+    target: &mut [u64],
+) -> Placed
+    requires { Ending p pair.top walked.window target.old }
+    ensures { (x y : Operand) (from : ℕ) → Course x y from → pair ≡ pair_of x y → negative ≡ x.negative → Stopped (M.mode_in mode) p x y walked target.old → Left p (add (M.mode_in mode) p x y) target.new result }
+{
+    finish_under(mode.as_mode(), negative, p, pair, walked, target)
+}
+
+// The same under a mode.
+fn finish_under(
     mode: Mode,
     negative: bool,
     p: u64,

@@ -18,8 +18,8 @@ ghost use Rattle.far.specs.Alone.{Alone, Answered};
 use choice::either;
 use location::{Location, rounds_up};
 use parts::copy;
-use place::Placed;
-use rounding::Mode;
+use place::{Placed, by_fields};
+use rounding::{AsMode, Mode};
 use settle::Pair;
 use wide::{Attempt, Operands};
 
@@ -88,7 +88,15 @@ fn round(mode: Mode, p: u64, order: &Operands, target: &mut [u64]) -> Placed
 }
 
 // Adds two such numbers, where no refusal is near.
-pub fn attempt(mode: Mode, p: u64, order: &Operands, target: &mut [u64]) -> Option<Attempt>
+pub fn attempt<M: AsMode>(mode: M, p: u64, order: &Operands, target: &mut [u64]) -> Option<Attempt>
+    requires { Room p (length target.old) × (length order.now.first.now ≡ length target.old) × (64 * length target.old ≤ order.now.pair.gap) × (p + 1 < order.now.pair.gap) }
+    ensures { (length target.new ≡ length target.old) × AttemptsInOrder (M.mode_in mode) p order.now.negative order.now.pair order.now.swapped order.now.first.now order.now.second.now target.new result }
+{
+    attempt_under(mode.as_mode(), p, order, target)
+}
+
+// The same under a mode.
+fn attempt_under(mode: Mode, p: u64, order: &Operands, target: &mut [u64]) -> Option<Attempt>
     requires { Room p (length target.old) × (length order.now.first.now ≡ length target.old) × (64 * length target.old ≤ order.now.pair.gap) × (p + 1 < order.now.pair.gap) }
     ensures { (length target.new ≡ length target.old) × AttemptsInOrder mode p order.now.negative order.now.pair order.now.swapped order.now.first.now order.now.second.now target.new result }
 {
@@ -99,7 +107,7 @@ pub fn attempt(mode: Mode, p: u64, order: &Operands, target: &mut [u64]) -> Opti
     let placed = round(mode, p, order, target);
     Some(Attempt {
         negative: order.negative,
-        placed,
+        placed: by_fields(placed),
         depth: n,
         first: either(order.swapped, n, 0),
         second: either(order.swapped, 0, n),

@@ -8,7 +8,7 @@ ghost use Rattle.rounding.specs.Answer.{signed};
 ghost use Rattle.location.specs.Ternary.{ternary_of};
 ghost use Rattle.location.specs.Location.{location_of, goes_up, side};
 
-use rounding::Mode;
+use rounding::{AsMode, Mode};
 
 // Nothing below the last kept digit, or something below, at or above the middle.
 #[derive(Clone, Copy, Debug, PartialEq, Eq)]
@@ -60,9 +60,10 @@ pub fn locate(low: u64, guard: u64, width: u64, more: bool) -> Location
 
 // Whether the last unit is added. By tests and not by one match of both, of which the compiler makes tables of jumps: a sum of one limb then misses its bar.
 #[tactic(auto, unfolding(crate::specs::Location::goes_up, rounding::specs::Mode::way))]
-pub fn rounds_up(mode: Mode, negative: bool, at: Location, odd: bool) -> bool
-    ensures { result ≡ goes_up (way mode negative) at odd }
+pub fn rounds_up<M: AsMode>(mode: M, negative: bool, at: Location, odd: bool) -> bool
+    ensures { result ≡ goes_up (way (M.mode_in mode) negative) at odd }
 {
+    let mode = mode.as_mode();
     if mode == Mode::Nearest {
         return match at {
             Location::Exact | Location::Lower => false,

@@ -10,7 +10,7 @@ ghost use Rattle.narrow.specs.Lone.{Lone, Beside};
 use crate::looking::Sight;
 use crate::seeing::Seen;
 use checks::Regular;
-use rounding::Mode;
+use rounding::{AsMode, Mode};
 
 // Whether the digits of a limb below the half of the last one kept are not all 0.
 fn has_rest(p: u64, u: u64) -> bool
@@ -40,8 +40,16 @@ fn see_alone(mode: Mode, negative: bool, p: u64, first: u64, top: u64, u: u64) -
 }
 
 // What the first column of a regular operand fixes, whichever zero stands beside it.
+pub fn look_alone<M: AsMode>(mode: M, x: Regular, p: u64) -> Option<Sight>
+    requires { (least_precision ≤ p) × (p ≤ 62) }
+    ensures { IfSome result (λ s. (z : Operand) → WellFormed z → z.is_zero ≡ true → Looked (M.mode_in mode) p (regular x.entry) z s) }
+{
+    look_alone_under(mode.as_mode(), x, p)
+}
+
+// The same under a mode.
 #[tactic(auto, using(checks::proofs::Held::held_limb))]
-pub fn look_alone(mode: Mode, x: Regular, p: u64) -> Option<Sight>
+fn look_alone_under(mode: Mode, x: Regular, p: u64) -> Option<Sight>
     requires { (least_precision ≤ p) × (p ≤ 62) }
     ensures { IfSome result (λ s. (z : Operand) → WellFormed z → z.is_zero ≡ true → Looked mode p (regular x.entry) z s) }
 {

@@ -11,7 +11,7 @@ use crate::looking::{Sight, sight_of};
 use crate::ordered::{Tops, tops_of};
 use crate::seeing::Seen;
 use checks::Regular;
-use rounding::Mode;
+use rounding::{AsMode, Mode};
 
 // What the first column of two operands of one sign in order fixes, rounded as the mode says.
 #[inline(always)]
@@ -39,7 +39,16 @@ fn see_like(mode: Mode, negative: bool, tops: Tops) -> Option<Seen>
 
 // What the first column of two regular operands of one sign fixes: with one exponent either may come first.
 #[inline(always)]
-pub fn look_like(mode: Mode, x: Regular, y: Regular, p: u64) -> Option<Sight>
+pub fn look_like<M: AsMode>(mode: M, x: Regular, y: Regular, p: u64) -> Option<Sight>
+    requires { (least_precision ≤ p) × (p ≤ 62) × (x.number.negative ≡ y.number.negative) }
+    ensures { IfSome result (Looked (M.mode_in mode) p (regular x.entry) (regular y.entry)) }
+{
+    look_like_under(mode.as_mode(), x, y, p)
+}
+
+// The same under a mode.
+#[inline(always)]
+fn look_like_under(mode: Mode, x: Regular, y: Regular, p: u64) -> Option<Sight>
     requires { (least_precision ≤ p) × (p ≤ 62) × (x.number.negative ≡ y.number.negative) }
     ensures { IfSome result (Looked mode p (regular x.entry) (regular y.entry)) }
 {

@@ -13,7 +13,7 @@ use crate::seeing::Seen;
 use crate::unlike::look_unlike;
 use checks::Regular;
 use choice::either;
-use rounding::Mode;
+use rounding::AsMode;
 
 // What is seen of two operands, and the limbs used of each in their own order.
 #[derive(Clone, Copy)]
@@ -36,10 +36,11 @@ pub fn sight_of(seen: Seen, tops: Tops, swapped: bool) -> Sight
 }
 
 // What the first column of two regular operands fixes.
-pub fn look(mode: Mode, x: Regular, y: Regular, p: u64) -> Option<Sight>
+pub fn look<M: AsMode>(mode: M, x: Regular, y: Regular, p: u64) -> Option<Sight>
     requires { (least_precision ≤ p) × (p ≤ 62) }
-    ensures { IfSome result (Looked mode p (regular x.entry) (regular y.entry)) }
+    ensures { IfSome result (Looked (M.mode_in mode) p (regular x.entry) (regular y.entry)) }
 {
+    let mode = mode.as_mode();
     if x.number.negative == y.number.negative {
         return look_like(mode, x, y, p);
     }

@@ -12,7 +12,7 @@ use crate::ordered::{Tops, tops_of};
 use crate::seeing::{Seen, is_exact, see_exact};
 use checks::Regular;
 use choice::is_second_larger;
-use rounding::Mode;
+use rounding::{AsMode, Mode};
 
 // What the first column of two operands of unlike signs in order fixes: exact, or rounded as the mode says. The first is then seen to be the larger, or all cancels.
 #[inline(always)]
@@ -43,8 +43,17 @@ fn see_unlike(mode: Mode, negative: bool, tops: Tops) -> Option<Seen>
 
 // What the first column of two regular operands of unlike signs fixes; the larger has the sign of the first where they are not swapped.
 #[inline(always)]
+pub fn look_unlike<M: AsMode>(mode: M, x: Regular, y: Regular, p: u64) -> Option<Sight>
+    requires { (least_precision ≤ p) × (p ≤ 62) × (x.number.negative ≡ y.number.negative → ⊥) }
+    ensures { IfSome result (Looked (M.mode_in mode) p (regular x.entry) (regular y.entry)) }
+{
+    look_unlike_under(mode.as_mode(), x, y, p)
+}
+
+// The same under a mode.
+#[inline(always)]
 #[tactic(auto, using(checks::proofs::Held::held_limb))]
-pub fn look_unlike(mode: Mode, x: Regular, y: Regular, p: u64) -> Option<Sight>
+fn look_unlike_under(mode: Mode, x: Regular, y: Regular, p: u64) -> Option<Sight>
     requires { (least_precision ≤ p) × (p ≤ 62) × (x.number.negative ≡ y.number.negative → ⊥) }
     ensures { IfSome result (Looked mode p (regular x.entry) (regular y.entry)) }
 {

@@ -1,17 +1,18 @@
 -- Laws of `trimmed`: what it drops is worth nothing, it keeps the lowest limb that is not 0, and it is all there is to drop. Assumes nothing.
-use mathlib.Core.Path.{◌≡◌, refl, ap}
+use mathlib.Core.Path.{◌≡◌, refl, ap, ◌∙◌}
 use mathlib.Core.List.{List, [], ◌∷◌}
 use Prim.Native.Nat.{ℕ, zero, suc, ◌+◌, ◌-◌, ◌*◌, ◌^◌, ◌≤◌, ◌<◌}
 use native.Mathlib.Nat.{pow-zero, pow-succ'}
 use native.Mathlib.Omega.{arith}
-use lib.ListN.{length, get_or, drop}
+use lib.ListN.{length, get_or, take, drop}
 use lib.Seq.{drop-cons}
 use Rattle.std.specs.List.{position, position_or_len}
 use Rattle.std.specs.Option.{unwrap_or}
 use native.Mathlib.Decide.{dec_le}
-use Rattle.std.proofs.Common.{false, not, eqb, le-ltb, lt-ltb, ne_eqb}
+use Rattle.std.proofs.Common.{Option, false, not, eqb, le-ltb, lt-ltb, ne_eqb}
 use Rattle.limb.specs.Value.{value_in}
 use Rattle.parts.specs.Trimmed.{trimmed}
+use Rattle.parts.proofs.Parts.{part_is}
 
 one_add : (n : ℕ) → 1 + n ≡ suc n
 one_add n = omega arith
@@ -87,7 +88,7 @@ trimmed_to_nothing (zero ∷ xs) e (suc i) = trimmed_to_nothing xs e i
 trimmed_to_nothing (suc x ∷ xs) e i = absurd (omega (arith, ap length e))
 
 -- the place of the lowest limb that is not 0, and the end where there is none
-abbrev start_of : List ℕ → ℕ
+abbrev pub start_of : List ℕ → ℕ
 start_of l = unwrap_or (position (λ x. not (eqb x 0)) l) (length l)
 
 start_most : (l : List ℕ) → position_or_len (λ x. not (eqb x 0)) l ≤ length l
@@ -114,3 +115,11 @@ kept_from (suc x ∷ xs) = rw (some x) refl
 -- the limbs from there on are what is kept
 pub trimmed_from_start : (l : List ℕ) → drop (start_of l) l ≡ trimmed l
 trimmed_from_start l = rw (start_is l) (kept_from l)
+
+-- the place found, with the length for none, is the start
+pub start_read : (l : List ℕ) (found : Option ℕ) (past place : ℕ) → found ≡ position (λ x. not (eqb x 0)) l → past ≡ length l → place ≡ unwrap_or found past → place ≡ start_of l
+start_read l found past place ef ep e = rw (ef, ep) at e
+
+-- so is the part from any place on that is the start
+pub kept_at : (l : List ℕ) (place : ℕ) → place ≡ start_of l → take (length l - place) (drop place l) ≡ trimmed l
+kept_at l place e = rw e (part_is l (start_of l) ∙ trimmed_from_start l)

@@ -17,10 +17,25 @@ ghost use Rattle.place.specs.Beside.{Stored, above_answer, below_answer};
 use crate::Placed;
 use kept::round_up;
 use location::{Location, rounds_up, ternary};
-use rounding::Mode;
+use rounding::{AsMode, Mode};
 
 // Rounds a little more than the number in the target: the last unit is added where the mode goes away from zero.
-pub fn round_above(
+pub fn round_above<M: AsMode>(
+    negative: bool,
+    target: &mut [u64],
+    exponent: u64,
+    precision: u64,
+    mode: M,
+) -> Placed
+    requires { Stored precision exponent target.old × (exponent < most_exponent) }
+    ensures value { result ≡ placed_of (above_answer (M.mode_in mode) precision negative exponent target.old) }
+    ensures target_after { target.new ≡ limbs_after precision (above_answer (M.mode_in mode) precision negative exponent target.old) }
+{
+    round_above_under(negative, target, exponent, precision, mode.as_mode())
+}
+
+// The same under a mode.
+fn round_above_under(
     negative: bool,
     target: &mut [u64],
     exponent: u64,

@@ -22,7 +22,7 @@ use kept::{is_odd, raise, reach, round_up, truncate};
 use limits::{run_rule, settle, settle_limb};
 use location::{locate, rounds_up, ternary};
 pub use one::{round_carried, round_one, round_raised, settle_one};
-use rounding::Mode;
+use rounding::{AsMode, Mode};
 
 // The rule by which the run is refused, or 0; the counted exponent and the ternary value of what is selected.
 #[derive(Clone, Copy)]
@@ -30,6 +30,17 @@ pub struct Placed {
     pub rule: u8,
     pub exponent: u64,
     pub ternary: i8,
+}
+
+// The same, by its fields: copied whole, with the bytes between them, it waits for the stores that left it.
+pub fn by_fields(placed: Placed) -> Placed
+    ensures { result ≡ placed }
+{
+    Placed {
+        rule: placed.rule,
+        exponent: placed.exponent,
+        ternary: placed.ternary,
+    }
 }
 
 // The same, with the digits selected in one limb.
@@ -40,7 +51,34 @@ pub struct PlacedLimb {
 }
 
 // Rounds a run that rules 2 to 5 let pass, as `round_run` does: for a caller that knows so.
-pub fn round_fit(
+pub fn round_fit<M: AsMode>(
+    negative: bool,
+    carry: bool,
+    target: &mut [u64],
+    guard: u64,
+    more: bool,
+    unit: u64,
+    precision: u64,
+    mode: M,
+) -> Placed
+    requires { run_rule precision carry target.old unit ≡ 0 }
+    ensures value { result ≡ rounded_placed (M.mode_in mode) precision negative unit carry target.old guard more }
+    ensures target_after { target.new ≡ rounded_limbs (M.mode_in mode) precision negative unit carry target.old guard more }
+{
+    by_fields(round_fit_under(
+        negative,
+        carry,
+        target,
+        guard,
+        more,
+        unit,
+        precision,
+        mode.as_mode(),
+    ))
+}
+
+// The same under a mode.
+fn round_fit_under(
     negative: bool,
     carry: bool,
     target: &mut [u64],
@@ -82,7 +120,25 @@ pub fn round_exact(target: &mut [u64], unit: u64, precision: u64) -> Placed
 // Rounds a run of one limb whose first digit is 1 as `round_fit` does, by value, so that the quick ways keep it in registers: it stands in each
 // of them, since a call would take what it tells through memory.
 #[inline(always)]
-pub fn round_limb(
+pub fn round_limb<M: AsMode>(
+    negative: bool,
+    limb: u64,
+    guard: u64,
+    more: bool,
+    unit: u64,
+    precision: u64,
+    mode: M,
+) -> PlacedLimb
+    requires { (run_rule precision false (limb ∷ []) unit ≡ 0) × (2 ^ 63 ≤ limb) }
+    ensures placed_value { result.placed ≡ rounded_placed (M.mode_in mode) precision negative unit false (limb ∷ []) guard more }
+    ensures limb_value { result.limb ∷ [] ≡ rounded_limbs (M.mode_in mode) precision negative unit false (limb ∷ []) guard more }
+{
+    round_limb_under(negative, limb, guard, more, unit, precision, mode.as_mode())
+}
+
+// The same under a mode.
+#[inline(always)]
+fn round_limb_under(
     negative: bool,
     limb: u64,
     guard: u64,
@@ -110,7 +166,33 @@ pub fn round_limb(
 // Rounds a run to `precision` digits: the target is left with them at its top, and the spare bits 0. The guard's last digit has the
 // counted weight `unit`, and `more` says that something lies below it. By rules 2 to 5 a run is refused and the target stays; by 6 and
 // 7 the selected exponent is out of range and the target is cleared.
-pub fn round_run(
+pub fn round_run<M: AsMode>(
+    negative: bool,
+    carry: bool,
+    target: &mut [u64],
+    guard: u64,
+    more: bool,
+    unit: u64,
+    precision: u64,
+    mode: M,
+) -> Placed
+    ensures value { result ≡ rounded_placed (M.mode_in mode) precision negative unit carry target.old guard more }
+    ensures target_after { target.new ≡ rounded_limbs (M.mode_in mode) precision negative unit carry target.old guard more }
+{
+    round_run_under(
+        negative,
+        carry,
+        target,
+        guard,
+        more,
+        unit,
+        precision,
+        mode.as_mode(),
+    )
+}
+
+// The same under a mode.
+fn round_run_under(
     negative: bool,
     carry: bool,
     target: &mut [u64],

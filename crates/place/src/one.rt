@@ -17,7 +17,7 @@ ghost use Rattle.place.specs.Rounded.{rounded_placed, rounded_limbs};
 use crate::limits::settle_limb;
 use crate::{PlacedLimb, round_limb};
 use limb::FIRST_DIGIT;
-use rounding::Mode;
+use rounding::{AsMode, Mode};
 
 // The digits of a run from its first on in one limb and a guard, and the weight of the guard's last digit.
 #[derive(Clone, Copy)]
@@ -64,7 +64,34 @@ fn normalize(carry: bool, limb: u64, guard: u64, more: bool, unit: u64) -> Norma
 }
 
 // Rounds a run of one limb as `round_fit` does, by value.
-pub fn round_one(
+pub fn round_one<M: AsMode>(
+    negative: bool,
+    carry: bool,
+    limb: u64,
+    guard: u64,
+    more: bool,
+    unit: u64,
+    precision: u64,
+    mode: M,
+) -> PlacedLimb
+    requires { (run_rule precision carry (limb ∷ []) unit ≡ 0) × (64 < unit) × (unit < 2 * most_exponent) }
+    ensures placed_value { result.placed ≡ rounded_placed (M.mode_in mode) precision negative unit carry (limb ∷ []) guard more }
+    ensures limb_value { result.limb ∷ [] ≡ rounded_limbs (M.mode_in mode) precision negative unit carry (limb ∷ []) guard more }
+{
+    round_one_under(
+        negative,
+        carry,
+        limb,
+        guard,
+        more,
+        unit,
+        precision,
+        mode.as_mode(),
+    )
+}
+
+// The same under a mode.
+fn round_one_under(
     negative: bool,
     carry: bool,
     limb: u64,
@@ -106,7 +133,25 @@ fn lower(carry: bool, limb: u64, more: bool, unit: u64) -> Normal
 
 // Rounds a run of one limb without a guard as `round_one` does, where its first digit is the carry or the limb's first, and the limb has two digits to spare.
 #[inline(always)]
-pub fn round_carried(
+pub fn round_carried<M: AsMode>(
+    negative: bool,
+    carry: bool,
+    limb: u64,
+    more: bool,
+    unit: u64,
+    precision: u64,
+    mode: M,
+) -> PlacedLimb
+    requires { (run_rule precision carry (limb ∷ []) unit ≡ 0) × (64 < unit) × (unit < 2 * most_exponent) × (carry ≡ false → 2 ^ 63 ≤ limb) × (precision ≤ 62) }
+    ensures placed_value { result.placed ≡ rounded_placed (M.mode_in mode) precision negative unit carry (limb ∷ []) 0 more }
+    ensures limb_value { result.limb ∷ [] ≡ rounded_limbs (M.mode_in mode) precision negative unit carry (limb ∷ []) 0 more }
+{
+    round_carried_under(negative, carry, limb, more, unit, precision, mode.as_mode())
+}
+
+// The same under a mode.
+#[inline(always)]
+fn round_carried_under(
     negative: bool,
     carry: bool,
     limb: u64,
@@ -125,7 +170,25 @@ pub fn round_carried(
 
 // Rounds a run of one limb without a carry as `round_one` does: it never goes down.
 #[inline(always)]
-pub fn round_raised(
+pub fn round_raised<M: AsMode>(
+    negative: bool,
+    limb: u64,
+    guard: u64,
+    more: bool,
+    unit: u64,
+    precision: u64,
+    mode: M,
+) -> PlacedLimb
+    requires { (run_rule precision false (limb ∷ []) unit ≡ 0) × (64 < unit) × (unit < 2 * most_exponent) }
+    ensures placed_value { result.placed ≡ rounded_placed (M.mode_in mode) precision negative unit false (limb ∷ []) guard more }
+    ensures limb_value { result.limb ∷ [] ≡ rounded_limbs (M.mode_in mode) precision negative unit false (limb ∷ []) guard more }
+{
+    round_raised_under(negative, limb, guard, more, unit, precision, mode.as_mode())
+}
+
+// The same under a mode.
+#[inline(always)]
+fn round_raised_under(
     negative: bool,
     limb: u64,
     guard: u64,

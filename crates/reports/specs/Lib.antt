@@ -3,3 +3,4 @@ pub mod Exchanged
 pub mod Signed
 pub mod Counts
 pub mod Ranged
+pub mod LaidOut

@@ -13,7 +13,7 @@ ghost use Rattle.reports.specs.Counts.{used_of};
 
 use checks::{Kind, Number, Place, Refusal, Rule};
 use place::Placed;
-use rounding::Mode;
+use rounding::{AsMode, Mode};
 
 // A number that was rounded, and the sign of it less the exact value.
 #[derive(Clone, Copy, Debug, PartialEq, Eq)]
@@ -44,7 +44,14 @@ pub fn refused(refusal: Refusal, depth: u64, first: u64, second: u64) -> Sum
 }
 
 // The sign of a zero sum, the one place that says it: one sign stays, and of two it is plus.
-pub fn zero_sign(mode: Mode, a: bool, b: bool) -> bool
+pub fn zero_sign<M: AsMode>(mode: M, a: bool, b: bool) -> bool
+    ensures { result ≡ zero_sign (M.mode_in mode) a b }
+{
+    zero_sign_under(mode.as_mode(), a, b)
+}
+
+// The same under a mode.
+fn zero_sign_under(mode: Mode, a: bool, b: bool) -> bool
     ensures { result ≡ zero_sign mode a b }
 {
     if a == b { a } else { false }

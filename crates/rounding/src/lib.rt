@@ -3,6 +3,7 @@
 
 ghost use Rattle.std.specs.Prelude.{◌≡◌, ◌≤◌, ◌<◌, MatchResult};
 ghost use Rattle.rounding.specs.Mode.{mode_of};
+ghost use Rattle.rounding.specs.declared.Mode.{Mode};
 
 // To nearest with ties to the even last digit, toward zero, toward plus and toward minus infinity: numbers 0 to 3.
 #[derive(Clone, Copy, Debug, PartialEq, Eq)]
@@ -46,5 +47,29 @@ impl TryFrom<u8> for Mode {
             3 => Ok(Mode::Downward),
             _ => Err(UnknownMode(number)),
         }
+    }
+}
+
+// What a caller may hand over for a mode: the mode, or its number, where one above 3 counts as 3.
+pub trait AsMode {
+    ghost mode_in: { Self → Mode };
+
+    fn as_mode(self) -> Mode
+        ensures { result ≡ mode_in self };
+}
+
+impl AsMode for Mode {
+    ghost mode_in = { λ mode. mode };
+
+    fn as_mode(self) -> Mode {
+        self
+    }
+}
+
+impl AsMode for u8 {
+    ghost mode_in = { mode_of };
+
+    fn as_mode(self) -> Mode {
+        Mode::numbered(self)
     }
 }

@@ -8,7 +8,7 @@ ghost use Rattle.checks.specs.Held.{regular};
 
 use checks::Regular;
 use place::PlacedLimb;
-use rounding::Mode;
+use rounding::{AsMode, Mode};
 
 // The top limb, the limb below it, and whether anything stands below both.
 //
@@ -61,7 +61,15 @@ pub fn leading(limbs: &[u64], precision: u64) -> Head
 }
 
 // What is selected of a number, by its leading digits, and its digits at the top of a limb.
-pub fn select(mode: Mode, x: Regular, a: Head) -> PlacedLimb
+pub fn select<M: AsMode>(mode: M, x: Regular, a: Head) -> PlacedLimb
+    requires { Leads x.limbs.now a }
+    ensures { Selects (M.mode_in mode) (regular x.entry) result }
+{
+    select_under(mode.as_mode(), x, a)
+}
+
+// The same under a mode.
+fn select_under(mode: Mode, x: Regular, a: Head) -> PlacedLimb
     requires { Leads x.limbs.now a }
     ensures { Selects mode (regular x.entry) result }
 {

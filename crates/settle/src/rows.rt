@@ -4,7 +4,7 @@ ghost use Rattle.rounding.specs.Mode.{way};
 ghost use Rattle.settle.specs.Ways.{theory_way};
 ghost use Rattle.settle.specs.Rows.{seen_row, far_row, row_of, Modest};
 
-use rounding::Mode;
+use rounding::{AsMode, Mode};
 
 // A mode on sizes: to the closest, not above, not below.
 #[derive(Clone, Copy)]
@@ -16,9 +16,10 @@ pub enum Way {
 
 // The way of a mode, of a number with that sign.
 #[tactic(auto, unfolding(crate::specs::Ways::theory_way, rounding::specs::Mode::way))]
-pub fn way_of(mode: Mode, negative: bool) -> Way
-    ensures { theory_way result ≡ way mode negative }
+pub fn way_of<M: AsMode>(mode: M, negative: bool) -> Way
+    ensures { theory_way result ≡ way (M.mode_in mode) negative }
 {
+    let mode = mode.as_mode();
     match (mode, negative) {
         (Mode::Nearest, _) => Way::Near,
         (Mode::Zeroward, _) => Way::Under,

@@ -9,7 +9,7 @@ ghost use Rattle.short.specs.Short.{Answers, Tells};
 
 use crate::close::write;
 use location::{Location, rounds_up};
-use place::Placed;
+use place::{Placed, by_fields};
 use rounding::Mode;
 use settle::Pair;
 use wide::{Attempt, Filled};
@@ -99,7 +99,7 @@ pub fn add_apart(
     let placed = round(mode, negative, p, pair, u, target);
     Attempt {
         negative,
-        placed,
+        placed: by_fields(placed),
         depth: 1,
         first: one(!swapped),
         second: one(swapped),

@@ -12,7 +12,7 @@ mod apart; // apart.rt: more than the answer apart
 
 use apart::add_apart;
 use close::add_close;
-use rounding::Mode;
+use rounding::{AsMode, Mode};
 use settle::Pair;
 use wide::{Attempt, Operands};
 
@@ -43,7 +43,15 @@ fn add_in_order(
 }
 
 // Adds two regular numbers in order, of one limb each, unless they lie at the ends of the range, or are apart by a limb or more and no more than the answer is long.
-pub fn attempt(mode: Mode, p: u64, order: &Operands, target: &mut [u64]) -> Option<Attempt>
+pub fn attempt<M: AsMode>(mode: M, p: u64, order: &Operands, target: &mut [u64]) -> Option<Attempt>
+    requires { Room p (length target.old) × (length order.now.first.now ≡ 1) × (length order.now.second.now ≡ 1) × (2 < length target.old) }
+    ensures { (length target.new ≡ length target.old) × AttemptsInOrder (M.mode_in mode) p order.now.negative order.now.pair order.now.swapped order.now.first.now order.now.second.now target.new result }
+{
+    attempt_under(mode.as_mode(), p, order, target)
+}
+
+// The same under a mode.
+fn attempt_under(mode: Mode, p: u64, order: &Operands, target: &mut [u64]) -> Option<Attempt>
     requires { Room p (length target.old) × (length order.now.first.now ≡ 1) × (length order.now.second.now ≡ 1) × (2 < length target.old) }
     ensures { (length target.new ≡ length target.old) × AttemptsInOrder mode p order.now.negative order.now.pair order.now.swapped order.now.first.now order.now.second.now target.new result }
 {

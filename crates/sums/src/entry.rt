@@ -11,13 +11,14 @@ ghost use Rattle.admission.specs.Sizes.{SizesPass};
 ghost use Rattle.place.specs.Placed.{placed_of};
 ghost use Rattle.reports.specs.Signed.{Signed};
 ghost use Rattle.reports.specs.Ranged.{Ranged};
+ghost use Rattle.reports.specs.LaidOut.{sum_in};
 ghost use Rattle.reports.specs.Summed.{sum_of, Reported, Summed, Rerounded};
 ghost use Rattle.checks.specs.Room.{Room};
 ghost use Rattle.narrow.specs.Looked.{Looked};
 
 use checks::{Formed, Number, Regular, copied};
 use narrow::Sight;
-use reports::Sum;
+use reports::{LaidOut, Sum};
 use rounding::Mode;
 use wide::Attempt;
 
@@ -97,7 +98,7 @@ fn told(sight: Sight, p: u64, target: &mut [u64]) -> Sum
 // x + y, rounded to p digits: at once where the first column fixes it, or the columns that fill the target. The first column was looked at already
 // where the signs are alike, or where they are not, as `like` says: a flag and not a function for each, so that the sum stands once in the archive. Any other way has numbers and slices of its own, so that these need not stand in
 // memory; and the sizes are tested where the call arrives, so that the words of a slice are not copied as pairs on the way.
-fn add_sized<'a>(
+fn add_any<'a>(
     mode: u8,
     x: Number,
     xl: &'a [u64],
@@ -142,6 +143,23 @@ fn add_sized<'a>(
         limbs: &yl[..],
     };
     reports::retold(summed(known, first, second, p, target))
+}
+
+// The same, laid out: one call for add and subtract, whose answer goes through memory.
+fn add_sized<'a>(
+    mode: u8,
+    x: Number,
+    xl: &'a [u64],
+    y: Number,
+    yl: &'a [u64],
+    p: u64,
+    target: &mut [u64],
+    like: bool,
+) -> LaidOut
+    requires { SizesPass x.precision (length xl.now) y.precision (length yl.now) p (length target.old) }
+    ensures { Summed plus mode x xl.now y yl.now p target.old target.new (sum_in result) }
+{
+    LaidOut::of(add_any(mode, x, xl, y, yl, p, target, like))
 }
 
 // Where the sizes do not pass: the first test that fails, by the tests in their order. Of the target its length is enough.
@@ -199,7 +217,7 @@ pub fn add<'a>(
     if !admission::sizes_pass(x.precision, xl.len(), y.precision, yl.len(), p, n) {
         return refuse_sizes(mode, copied(x), &xl[..], copied(y), &yl[..], p, n);
     }
-    reports::retold(add_sized(
+    add_sized(
         mode,
         copied(x),
         &xl[..],
@@ -208,7 +226,8 @@ pub fn add<'a>(
         p,
         target,
         true,
-    ))
+    )
+    .sum()
 }
 
 // x - y, rounded to p digits: the sum with the second sign turned.
@@ -242,7 +261,7 @@ pub fn subtract<'a>(
     if !admission::sizes_pass(x.precision, xl.len(), turned.precision, yl.len(), p, n) {
         return refuse_sizes(mode, copied(x), &xl[..], copied(turned), &yl[..], p, n);
     }
-    reports::retold(add_sized(
+    add_sized(
         mode,
         copied(x),
         &xl[..],
@@ -251,7 +270,8 @@ pub fn subtract<'a>(
         p,
         target,
         false,
-    ))
+    )
+    .sum()
 }
 
 // x alone, rounded to p digits, at once where the first column fixes it: reports as the addition of a zero.

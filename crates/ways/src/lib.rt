@@ -10,9 +10,10 @@ ghost use Rattle.wide.specs.Filling.{FillsBy};
 ghost use Rattle.wide.specs.Attempted.{Attempts, AttemptsInOrder};
 ghost use Rattle.deep.specs.Deep.{Deep};
 
-use checks::{Number, Regular};
+use checks::{Number, Regular, copied};
 use choice::{either, is_level, is_second_larger};
-use rounding::Mode;
+use place::by_fields;
+use rounding::{AsMode, Mode};
 use settle::Pair;
 use wide::{Attempt, Filled, Operands};
 
@@ -84,7 +85,7 @@ fn round_filled(mode: Mode, p: u64, order: &Operands, target: &mut [u64]) -> Opt
     let lower = reports::used(filled.depth, order.pair.gap, order.second.len());
     Some(Attempt {
         negative: order.negative,
-        placed,
+        placed: by_fields(placed),
         depth: filled.depth,
         first: either(order.swapped, upper, lower),
         second: either(order.swapped, lower, upper),
@@ -155,7 +156,23 @@ fn add_regular(mode: Mode, p: u64, x: Regular, y: Regular, target: &mut [u64]) -
 }
 
 // Adds two numbers, where the columns that fill the target, or one more, fix the answer. Where one is zero it is left open.
-pub fn attempt<'a>(
+pub fn attempt<'a, M: AsMode>(
+    mode: M,
+    x: Number,
+    xl: &'a [u64],
+    y: Number,
+    yl: &'a [u64],
+    p: u64,
+    target: &mut [u64],
+) -> Option<Attempt>
+    requires { WellFormed (operand_of x xl.now) × WellFormed (operand_of y yl.now) × Room p (length target.old) }
+    ensures { (length target.new ≡ length target.old) × Attempts (M.mode_in mode) p (operand_of x xl.now) (operand_of y yl.now) target.new result }
+{
+    attempt_under(mode.as_mode(), x, xl, y, yl, p, target)
+}
+
+// The same under a mode.
+fn attempt_under<'a>(
     mode: Mode,
     x: Number,
     xl: &'a [u64],
@@ -174,11 +191,11 @@ pub fn attempt<'a>(
         return None;
     }
     let first = Regular {
-        number: x,
+        number: copied(x),
         limbs: xl,
     };
     let second = Regular {
-        number: y,
+        number: copied(y),
         limbs: yl,
     };
     if is_aligned(x, xl.len(), y, yl.len(), target.len()) {

@@ -1,13 +1,10 @@
 -- `parts::trim` is right since the part from the lowest limb that is not 0 on is what `trimmed` keeps. Assumes nothing.
-use Rattle.std.proofs.Common.{◌≡◌, Option, ℕ, length, not, eqb, position, ap, ◌∙◌}
-use Rattle.std.specs.Option.{unwrap_or}
-use Rattle.parts.proofs.Parts.{part_is}
-use Rattle.parts.proofs.Trimming.{trimmed_from_start}
+use Rattle.std.proofs.Common.{◌≡◌, arith}
+use Rattle.parts.proofs.Trimming.{start_of, start_read, start_within, kept_at}
 use Rattle.parts.proofs.trim.Goals as goal
 
 pub returns : goal.returns
 returns c =
     let s = c.args.s.now in
-    let place : c.unwrap_or-start.result ≡ unwrap_or (position (λ x. not (eqb x 0)) s) (length s) =
-    c.unwrap_or-start.ensures ∙ ap (λ (o : Option ℕ). unwrap_or o (length s)) c.lowest.ensures in
-    rw place (part_is s (unwrap_or (position (λ x. not (eqb x 0)) s) (length s)) ∙ trimmed_from_start s)
+    let start : c.unwrap_or-start.result ≡ start_of s = start_read s _ _ _ c.lowest.ensures (omega arith) c.unwrap_or-start.ensures in
+    kept_at s _ (omega (arith, start, start_within s))

@@ -15,11 +15,11 @@ pub used-lower-requires : goal.used-lower-requires
 used-lower-requires c = few c.in_ok-filled.ensures.1.0
 
 pub returns : goal.returns
-returns c =
+returns c = rw c.by_fields.ensures (
     let f = c.in_ok-filled.ensures.1 in
     let size = c.fill.auto.target in
     let r = c.round-placed.ensures in (
       r.0 ∙ size,
       λ z w h sign. depth_told c.args.p _ _ _ _ (room_kept _ _ _ size c.requires) _ _ h c.args.mode _ (f.2 _ _ h sign) _ sign (r.1 z w h sign)
           (counts_back c.args.order.now.swapped c.either.ensures c.either-2.ensures c.used-upper.ensures c.used-lower.ensures),
-    )
+    ))

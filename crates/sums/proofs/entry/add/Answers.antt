@@ -54,4 +54,4 @@ pub add_sized-requires : goal.add_sized-requires
 add_sized-requires c = copies_sized c.copied-2.ensures c.copied-3.ensures _ _ _ _ (c.sizes_pass.ensures.0 (c.if-not-sizes_pass.false))
 
 pub returns : goal.returns
-returns c = copies_summed _ _ c.copied-2.ensures c.copied-3.ensures _ _ _ _ c.retold.ensures c.add_sized.ensures
+returns c = copies_summed _ _ c.copied-2.ensures c.copied-3.ensures _ _ _ _ c.sum.ensures c.add_sized.ensures

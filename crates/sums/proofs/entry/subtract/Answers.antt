@@ -59,4 +59,4 @@ add_sized-requires c = copies_sized c.copied-2.ensures c.copied-3.ensures _ _ _ 
 pub returns : goal.returns
 returns c =
     summed_turned _ _ _ _ _ _ _ _ _
-    (rw c.turn_sign-turned.ensures at (copies_summed _ _ c.copied-2.ensures c.copied-3.ensures _ _ _ _ c.retold.ensures c.add_sized.ensures))
+    (rw c.turn_sign-turned.ensures at (copies_summed _ _ c.copied-2.ensures c.copied-3.ensures _ _ _ _ c.sum.ensures c.add_sized.ensures))
