@@ -13,7 +13,6 @@ use Rattle.lines.proofs.Longest.{line_fits}
 use Rattle.numbers.specs.Operand.{WellFormed}
 use Rattle.checks.specs.declared.Number.{Number}
 use Rattle.checks.specs.declared.Refusal.{Refusal}
-use Rattle.checks.specs.Refusal.{rule_number, place_number}
 use Rattle.std.specs.Prelude.{Result, Ok, Err, IfOk}
 use Rattle.checks.specs.Number.{operand_of}
 use Rattle.checks.specs.Check.{accepted, answered, left_by}
@@ -26,7 +25,8 @@ use Rattle.lines.proofs.Answered.{write_accepted}
 use Rattle.lines.proofs.Room.{onto_nothing, put_numeral, set_onto}
 use Rattle.reports.specs.declared.report.Rounded.{Rounded}
 use Rattle.reports.specs.declared.report.Sum.{Sum}
-use Rattle.desklines.specs.Answer.{refusal_line, ternary_byte, report_line, answer_lines, sum_lines, report_size, longest_answer}
+use Rattle.desklines.specs.declared.telling.Numbered.{Numbered}
+use Rattle.desklines.specs.Answer.{numbered_line, numbered, refusal_line, ternary_byte, report_line, answer_lines, sum_lines, report_size, longest_answer}
 use Rattle.desklines.specs.Written.{Tells, Appends}
 
 pub refusal_fits : 7 ≤ longest_answer
@@ -56,9 +56,9 @@ end_more out at h = (
 )
 
 -- ee, number, place, LF
-module _ (r : Refusal) (o a b c d : List ℕ) (i j k n v w : ℕ) (rule : v ≡ rule_number r.rule) (place : w ≡ place_number r.place) where
-  pub refusal_told : Appends (numeral 2 238) 2 0 o a i → Appends (numeral 2 v) 2 i a b j → Appends (numeral 2 w) 2 j b c k → Appends (line_feed ∷ []) 1 k c d n → Tells (refusal_line r) o d n
-  unfolding refusal_line
+module _ (r : Numbered) (o a b c d : List ℕ) (i j k n v w : ℕ) (rule : v ≡ r.rule) (place : w ≡ r.place) where
+  pub refusal_told : Appends (numeral 2 238) 2 0 o a i → Appends (numeral 2 v) 2 i a b j → Appends (numeral 2 w) 2 j b c k → Appends (line_feed ∷ []) 1 k c d n → Tells (numbered_line r) o d n
+  unfolding numbered_line
   refusal_told p q s t =
       let x = p.1 [] o refl (onto_nothing o) in
       let y = q.1 (numeral 2 238) o (length_numeral 2 238 ∙ sym p.0) x in
@@ -85,9 +85,12 @@ module _ (s : Sum) (ternary : ℤ) (at v : ℕ) (o a b c d e : List ℕ) (i j k 
         m ∙ ap (λ (x : List ℕ). onto x room) (simp (append_assoc, g)),
   )
 
+numbered_length : (r : Numbered) → length (numbered_line r) ≡ 7
+unfolding numbered_line
+numbered_length r = simp (length-append, length_numeral)
+
 pub refusal_length : (r : Refusal) → length (refusal_line r) ≡ 7
-unfolding refusal_line
-refusal_length r = simp (length-append, length_numeral)
+refusal_length r = numbered_length (numbered r)
 
 report_length : (t : ℤ) (s : Sum) → length (report_line t s) ≡ report_size
 unfolding report_line report_size

@@ -17,11 +17,19 @@ use Rattle.lines.specs.Reading.{number_in, limbs_read, read_refusal}
 use Rattle.reports.specs.declared.report.Rounded.{Rounded}
 use Rattle.reports.specs.declared.report.Sum.{Sum}
 use Rattle.reports.specs.Summed.{Reported}
+use Rattle.desklines.specs.declared.telling.Numbered.{Numbered}
 use Rattle.desklines.specs.Order.{order_refusal, request_in, operation_of}
 
 -- "A refusal prints one line: ee, number, place, a byte each"
-unfoldable pub refusal_line : Refusal → List ℕ
-refusal_line r = numeral 2 238 ++ numeral 2 (rule_number r.rule) ++ numeral 2 (place_number r.place) ++ line_feed ∷ []
+unfoldable pub numbered_line : Numbered → List ℕ
+numbered_line n = numeral 2 238 ++ numeral 2 n.rule ++ numeral 2 n.place ++ line_feed ∷ []
+
+-- the numbers of a refusal
+abbrev pub numbered : Refusal → Numbered
+numbered r = record { rule = rule_number r.rule; place = place_number r.place }
+
+abbrev pub refusal_line : Refusal → List ℕ
+refusal_line r = numbered_line (numbered r)
 
 -- "ternary (00, 01, ff)"
 unfoldable pub ternary_byte : ℤ → ℕ

@@ -7,7 +7,8 @@ use Rattle.checks.specs.Check.{accepted}
 use Rattle.lines.specs.Writing.{onto}
 use Rattle.numbers.specs.Limits.{most_precision, limbs_for}
 use Rattle.lines.specs.Reading.{number_in}
-use Rattle.desklines.specs.Answer.{Answered, refusal_line, longest_answer, limbs_of_line, number_refusal}
+use Rattle.desklines.specs.declared.telling.Numbered.{Numbered}
+use Rattle.desklines.specs.Answer.{Answered, numbered_line, numbered, longest_answer, limbs_of_line, number_refusal}
 
 -- bytes at the start of a room, and their count
 pub record Tells (told entry exit : List ℕ) (count : ℕ) : Type 0 where
@@ -19,10 +20,14 @@ abbrev pub Appends : List ℕ → ℕ → ℕ → List ℕ → List ℕ → ℕ 
 Appends more size at entry exit end =
     (end ≡ at + size) × ((told room : List ℕ) → length told ≡ at → entry ≡ onto told room → exit ≡ onto (told ++ more) room)
 
--- a refusal's line, where the room is long enough for any answer; a shorter room is left as it is
-pub record Refuses (r : Refusal) (entry exit : List ℕ) (count : ℕ) : Type 0 where
+-- the line of two numbers, where the room is long enough for any answer; a shorter room is left as it is
+pub record RefusesNumbered (n : Numbered) (entry exit : List ℕ) (count : ℕ) : Type 0 where
   pub short : length entry < longest_answer → (count ≡ 0) × (exit ≡ entry)
-  pub told : longest_answer ≤ length entry → Tells (refusal_line r) entry exit count
+  pub told : longest_answer ≤ length entry → Tells (numbered_line n) entry exit count
+
+-- a refusal's line, the same way
+abbrev pub Refuses : Refusal → List ℕ → List ℕ → ℕ → Type 0
+Refuses r = RefusesNumbered (numbered r)
 
 -- the answer of a group, where the room is long enough for any; a shorter room is left as it is
 pub record Answers (first second third entry exit : List ℕ) (count : ℕ) : Type 0 where

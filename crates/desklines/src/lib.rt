@@ -5,4 +5,6 @@ mod order; // order.rt: the desk line
 mod telling; // telling.rt: the lines that are printed
 
 pub use order::{Operation, Request, read_order};
-pub use telling::{LONGEST_ANSWER, longest_answer, put_refusal, put_sum, refuse};
+pub use telling::{
+    AsNumbered, LONGEST_ANSWER, Numbered, longest_answer, put_refusal, put_sum, refuse,
+};

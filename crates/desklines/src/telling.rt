@@ -2,13 +2,48 @@
 ghost use Rattle.std.specs.Prelude.{◌≡◌, ◌+◌, ◌≤◌, ◌<◌, ◌∷◌, ◌++◌, [], length, IfOk};
 ghost use Rattle.text.specs.Digits.{numeral};
 ghost use Rattle.lines.specs.Line.{line_feed, line_of};
-ghost use Rattle.desklines.specs.Answer.{refusal_line, ternary_byte, report_line, sum_lines, report_size, longest_answer};
+ghost use Rattle.desklines.specs.declared.telling.Numbered.{Numbered};
+ghost use Rattle.desklines.specs.Answer.{numbered, numbered_line, ternary_byte, report_line, sum_lines, report_size, longest_answer};
 ghost use Rattle.numbers.specs.Operand.{WellFormed};
 ghost use Rattle.checks.specs.Number.{operand_of};
-ghost use Rattle.desklines.specs.Written.{Tells, Appends, Refuses};
+ghost use Rattle.desklines.specs.Written.{Tells, Appends, RefusesNumbered};
 
 use checks::Refusal;
 use reports::{Rounded, Sum};
+
+// A refusal by its numbers: any two, also such as no rule or no place has.
+#[derive(Clone, Copy, Debug, PartialEq, Eq)]
+pub struct Numbered {
+    pub rule: u8,
+    pub place: u8,
+}
+
+// What a caller may hand over for a refusal: the refusal, or two numbers.
+pub trait AsNumbered {
+    ghost numbered_in: { Self → Numbered };
+
+    fn as_numbered(self) -> Numbered
+        ensures { result ≡ numbered_in self };
+}
+
+impl AsNumbered for Refusal {
+    ghost numbered_in = { numbered };
+
+    fn as_numbered(self) -> Numbered {
+        Numbered {
+            rule: self.rule.number(),
+            place: self.place.number(),
+        }
+    }
+}
+
+impl AsNumbered for Numbered {
+    ghost numbered_in = { λ numbers. numbers };
+
+    fn as_numbered(self) -> Numbered {
+        self
+    }
+}
 
 // Ternary value, depth and limbs used, in hexadecimal, with LF.
 const REPORT: usize = 11;
@@ -43,13 +78,14 @@ fn put_end(out: &mut [u8], at: usize) -> usize
 }
 
 // A refusal's line.
-pub fn put_refusal(refusal: Refusal, out: &mut [u8]) -> usize
+pub fn put_refusal<N: AsNumbered>(refusal: N, out: &mut [u8]) -> usize
     requires { longest_answer ≤ length out.old }
-    ensures { Tells (refusal_line refusal) out.old out.new result }
+    ensures { Tells (numbered_line (N.numbered_in refusal)) out.old out.new result }
 {
+    let numbers = refusal.as_numbered();
     let a = put(out, 0, 2, 238);
-    let b = put(out, a, 2, refusal.rule.number() as u64);
-    let c = put(out, b, 2, refusal.place.number() as u64);
+    let b = put(out, a, 2, numbers.rule as u64);
+    let c = put(out, b, 2, numbers.place as u64);
     put_end(out, c)
 }
 
@@ -101,11 +137,12 @@ pub fn put_sum(s: Sum, limbs: &[u64], out: &mut [u8]) -> usize
 }
 
 // A refusal's line alone; nothing where the room is too short.
-pub fn refuse(refusal: Refusal, out: &mut [u8]) -> usize
-    ensures { Refuses refusal out.old out.new result }
+pub fn refuse<N: AsNumbered>(refusal: N, out: &mut [u8]) -> usize
+    ensures { RefusesNumbered (N.numbered_in refusal) out.old out.new result }
 {
+    let numbers = refusal.as_numbered();
     if out.len() < longest_answer() {
         return 0;
     }
-    put_refusal(refusal, out)
+    put_refusal(numbers, out)
 }

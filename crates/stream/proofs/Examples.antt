@@ -31,7 +31,7 @@ use Rattle.desklines.specs.declared.order.Operation.{Operation as Asked}
 use Rattle.desklines.specs.declared.order.Operation.TheVariants.{Add, Subtract}
 use Rattle.desklines.specs.declared.order.Request.{Request}
 use Rattle.desklines.specs.Order.{order_size, order_refusal, operation_in, request_in, operation_of, order_of}
-use Rattle.desklines.specs.Answer.{refusal_line, ternary_byte, report_line, answer_lines, sum_lines, limbs_of_line, operand_of_line, placed, number_refusal, lines_refusal, sum_refusal, group_refusal, Answered}
+use Rattle.desklines.specs.Answer.{numbered_line, refusal_line, ternary_byte, report_line, answer_lines, sum_lines, limbs_of_line, operand_of_line, placed, number_refusal, lines_refusal, sum_refusal, group_refusal, Answered}
 use Rattle.cutting.specs.Lines.{ends_line, before, lines_of, line_room, cut_line}
 use Rattle.stream.specs.Desk.{Printed, nothing, no_second, no_third, group, Desk, cut_short}
 
@@ -63,7 +63,7 @@ orders_in_order = refl
 -- ---- what is printed
 
 pub refusals_printed : map refusal_line (at rules.LineSize Second ∷ at rules.DoubleTooLarge Call ∷ []) ≡ bytes "ee0802\n" ∷ bytes "ee0c00\n" ∷ []
-unfolding bytes refusal_line rule_number place_number numeral glyph_of line_feed
+unfolding bytes numbered_line rule_number place_number numeral glyph_of line_feed
 refusals_printed = refl
 
 pub ternaries_printed : map ternary_byte (negsuc 0 ∷ pos 0 ∷ pos 1 ∷ []) ≡ 0xff ∷ 0 ∷ 1 ∷ []
@@ -80,7 +80,7 @@ rounded = record { number = record { negative = true; kind = Regular; precision 
 pub sums_printed :
     (sum_lines (told (Ok rounded)) (2 ^ 63 ∷ []) ≡ bytes "010004000000018000000000000000\n0101020304\n")
     × (sum_lines (told (Err (at rules.TooSmall Target))) (2 ^ 63 ∷ []) ≡ bytes "ee0703\n")
-unfolding bytes sum_lines answer_lines report_line refusal_line rule_number place_number ternary_byte line_of head_digits limb_digits line_feed kind_byte twos_complement numeral glyph_of is_zero_kind
+unfolding bytes sum_lines answer_lines report_line numbered_line rule_number place_number ternary_byte line_of head_digits limb_digits line_feed kind_byte twos_complement numeral glyph_of is_zero_kind
 sums_printed = (refl, refl)
 
 -- ---- the order of a group's refusals
@@ -147,11 +147,11 @@ unfolding bytes lines_of
 printed_empty = nothing
 
 pub printed_one_line : Desk (bytes "no number\n") (bytes "ee0802\n")
-unfolding bytes lines_of before ends_line line_feed cut_short refusal_line rule_number place_number numeral glyph_of
+unfolding bytes lines_of before ends_line line_feed cut_short numbered_line rule_number place_number numeral glyph_of
 printed_one_line = no_second (bytes "no number\n")
 
 pub printed_two_lines : Desk (bytes "\n02000200000000") (bytes "ee0803\n")
-unfolding bytes lines_of before ends_line line_feed cut_short refusal_line rule_number place_number numeral glyph_of
+unfolding bytes lines_of before ends_line line_feed cut_short numbered_line rule_number place_number numeral glyph_of
 printed_two_lines = no_third (bytes "\n") (bytes "02000200000000")
 
 -- what is printed for three lines is their group's answer
