@@ -4,32 +4,33 @@
 
 mod pieces; // pieces.rt: one input, split in four ways
 
-use std::alloc::{AllocError, Global};
 use std::io;
 use vectors::Fields;
 
-// How many digits of a line count, two for a byte of an input.
+// How many bytes an input has at most, and how many digits of a line count, two for a byte.
+const INPUT_ROOM: usize = 32768;
+
 const LINE_ROOM: usize = 65536;
 
-fn bytes_of(alloc: Global, digits: &[u8]) -> Result<Vec<u8>, AllocError> {
-    digits
-        .chunks(2)
-        .map(|byte| Fields { rest: byte }.byte())
-        .collect(alloc)
+// The bytes of an input, as far as there is room.
+fn bytes_of<'a>(digits: &[u8], room: &'a mut [u8; INPUT_ROOM]) -> &'a [u8] {
+    for (byte, two) in room.iter_mut().zip(digits.chunks(2)) {
+        *byte = Fields { rest: two }.byte();
+    }
+    &room[..digits.len().div_ceil(2).min(INPUT_ROOM)]
 }
 
 fn main(rt: HostRuntime) -> io::Result<()> {
-    let alloc = rt.alloc();
     // Inputs are counted from 1.
     let mut input = 0u64;
+    let mut room = [0; INPUT_ROOM];
     vectors::answer_lines(
-        alloc,
-        rt.stdin(),
+        &mut rt.stdin(),
         &mut rt.stdout(),
-        LINE_ROOM,
-        |digits, answer| {
+        &mut [0; LINE_ROOM],
+        |digits, output| {
             input = input.wrapping_add(1);
-            pieces::run_input(input, &bytes_of(alloc, digits)?, answer)
+            pieces::run_input(input, bytes_of(digits, &mut room), output)
         },
     )
 }

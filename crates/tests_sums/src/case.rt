@@ -1,8 +1,13 @@
 // One case: a line that asks for a sum, and the line that answers it.
+ghost use Rattle.std.specs.Prelude.{◌+◌, ◌≤◌, max, length};
+ghost use Rattle.std.specs.Io.Cursor.{cursor_position};
+
 use reports::{Rounded, Sum};
 use std::io;
 use std::io::Write;
-use vectors::{Fields, LIMB_ROOM, NO_NUMBER, NumberFields, RefusalFields, put_all};
+use vectors::{
+    ANSWER_ROOM, Answer, Fields, LIMB_ROOM, NO_NUMBER, NumberFields, RefusalFields, put_all,
+};
 
 // What a line asks of its numbers: 0 adds, 1 subtracts, any other re-rounds the first one.
 #[derive(Clone, Copy)]
@@ -23,7 +28,7 @@ impl From<u8> for Operation {
 }
 
 // Refusal, number, ternary value in two's complement, depth, limbs used of each operand, target.
-fn put_sum(s: Sum, target: &[u64], answer: &mut Vec<u8>) -> io::Result<()> {
+fn put_sum(s: Sum, target: &[u64], answer: &mut Answer) -> io::Result<()> {
     let Sum {
         depth,
         first,
@@ -37,22 +42,26 @@ fn put_sum(s: Sum, target: &[u64], answer: &mut Vec<u8>) -> io::Result<()> {
     });
     let number = NumberFields(number);
     write!(answer, "{refusal}{number}")?;
-    write!(answer, "{ternary:02x}{depth:04x}{first:04x}{second:04x}")?;
+    put_all(answer, &[ternary.cast_unsigned()], 2)?;
+    put_all(answer, &[depth, first, second], 4)?;
     put_all(answer, target, 16)?;
-    writeln!(answer)
+    answer.write_all(b"\n")
 }
 
 // A line asks by operation (2), mode (2), target precision (16), target limb count (4), fill (2), then the two numbers.
 // No answer where the target has not so many limbs.
-fn run_case(line: &[u8], answer: &mut Vec<u8>) -> io::Result<()> {
+fn run_case(line: &[u8], answer: &mut Answer)
+    ensures { cursor_position answer.new ≤ 4096 }
+{
     let mut fields = Fields { rest: line };
     let operation = Operation::from(fields.byte());
     let mode = fields.byte();
     let precision = fields.word();
     let count = usize::from(fields.pair());
-    let mut room = vectors::filled(fields.byte());
+    let mut room = vectors::filled(u64::from(fields.byte()));
     let Some(target) = room.get_mut(..count) else {
-        return Ok(());
+        answer.set_position(0);
+        return;
     };
     let mut x_room = [0u64; LIMB_ROOM];
     let mut y_room = [0u64; LIMB_ROOM];
@@ -65,14 +74,19 @@ fn run_case(line: &[u8], answer: &mut Vec<u8>) -> io::Result<()> {
         Operation::Subtract => sums::subtract(mode, x, xl, y, yl, precision, target),
         Operation::Reround => sums::reround(mode, x, xl, precision, target),
     };
-    put_sum(sum, target, answer)
+    let _cut = put_sum(sum, target, answer);
+    answer.set_position(answer.position().min(ANSWER_ROOM));
 }
 
 // A comment as it is, and a case's answer.
-pub(crate) fn answer_line(line: &[u8], answer: &mut Vec<u8>) -> io::Result<()> {
+pub(crate) fn answer_line(line: &[u8], answer: &mut Answer)
+    ensures { cursor_position answer.new ≤ max 4096 (length line.now + 1) }
+{
+    answer.set_position(0);
     if line.starts_with(b"#") {
-        answer.write_all(line)?;
-        return writeln!(answer);
+        let _cut = answer.write(line);
+        let _cut = answer.write(b"\n");
+    } else {
+        run_case(line, answer)
     }
-    run_case(line, answer)
 }

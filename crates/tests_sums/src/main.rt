@@ -5,16 +5,21 @@
 mod case; // case.rt: one case
 
 use std::io;
+use std::io::Write;
+use vectors::{ANSWER_BYTES, Answer, answer_lines, answered};
 
 // A line has no more bytes that count.
 const LINE_ROOM: usize = 4096;
 
 fn main(rt: HostRuntime) -> io::Result<()> {
-    vectors::answer_lines(
-        rt.alloc(),
-        rt.stdin(),
+    let mut answer = Answer::new([0; ANSWER_BYTES]);
+    answer_lines(
+        &mut rt.stdin(),
         &mut rt.stdout(),
-        LINE_ROOM,
-        case::answer_line,
+        &mut [0; LINE_ROOM],
+        |line, output| {
+            case::answer_line(line, &mut answer);
+            output.write_all(answered(&answer))
+        },
     )
 }

@@ -7,6 +7,6 @@ mod answering; // answering.rt: an answer for each line
 mod printing; // printing.rt: fields of an answer
 mod reading; // reading.rt: fields of a line
 
-pub use answering::answer_lines;
+pub use answering::{ANSWER_BYTES, ANSWER_ROOM, Answer, answer_lines, answered};
 pub use printing::{NO_NUMBER, NumberFields, RefusalFields, put_all};
 pub use reading::{Fields, LIMB_ROOM, filled};

@@ -136,9 +136,9 @@ impl<'a> Fields<'a> {
     }
 }
 
-// So many limbs, each eight times the same byte.
-pub fn filled(byte: u8) -> [u64; LIMB_ROOM]
+// So many limbs, each eight times the same byte, which is the number's lowest.
+pub fn filled(byte: u64) -> [u64; LIMB_ROOM]
     ensures { 80 ≡ length result }
 {
-    [u64::from_ne_bytes([byte; 8]); LIMB_ROOM]
+    [u64::from_ne_bytes([(byte % 256) as u8; 8]); LIMB_ROOM]
 }
