@@ -218,18 +218,24 @@ module _ (x : Operand) (g : WellFormed x) (z : x.is_zero ≡ true) where
         double = λ i. refl;
       }
 
-  pub zero_pair : (e : Enclosing) → enclosed_of x ≡ Ok e → Encloses x e
+  -- it is told, and encloses the zero
+  pub zero_pair : (e : Enclosing) × ((enclosed_of x ≡ Ok e) × Encloses x e)
   unfolding end_of
-  zero_pair e h =
+  zero_pair =
       let zero : Converted = Exact (double (sign_bit x.negative)) in
-      let both : Ok e ≡ Ok (record { lower = end_of zero; upper = end_of zero }) = sym h ∙ enclosed_is x g ∙ pair_is _ _ zero zero (zero_at Downward) (zero_at Upward) in
-      let same : e ≡ record { lower = end_of zero; upper = end_of zero } = cc both in
-      rw same zero_encloses
+      (record { lower = end_of zero; upper = end_of zero }, (enclosed_is x g ∙ pair_is _ _ zero zero (zero_at Downward) (zero_at Upward), zero_encloses))
+
+  pub zero_pair_told : (e : Enclosing) → enclosed_of x ≡ Ok e → Encloses x e
+  zero_pair_told e h =
+      let z = zero_pair in
+      let both : Ok e ≡ Ok z.0 = sym h ∙ z.1.0 in
+      let same : e ≡ z.0 = cc both in
+      rw same z.1.1
 
 -- "where neither is refused, they are equal exactly when the number is a double", and the number lies between them
 pub pair_encloses : (x : Operand) → WellFormed x → (e : Enclosing) → enclosed_of x ≡ Ok e → Encloses x e
 pair_encloses x g e h = go x.is_zero refl
   where
     go : (b : Bool) → x.is_zero ≡ b → Encloses x e
-    go true z = zero_pair x g z e h
+    go true z = zero_pair_told x g z e h
     go false z = regular_pair x g z e h

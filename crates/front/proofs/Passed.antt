@@ -1,5 +1,6 @@
 -- Laws of columns passed over: none, one more, and those below the first column. Assumes nothing.
 use mathlib.Core.Path.{◌≡◌, sym, ap, ◌∙◌}
+use mathlib.Core.Bool.{Bool, true, false}
 use mathlib.Core.List.{List}
 use Prim.Native.Nat.{ℕ, zero, suc, ◌+◌, ◌-◌, ◌*◌, ◌^◌, ◌≤◌, ◌<◌}
 use native.Mathlib.Nat.{mul-one, pow-zero}
@@ -9,7 +10,8 @@ use lib.Bits.{bit_or, or_add_and, and_le_l, and_le_r}
 use Rattle.columns.specs.Column.{read_to, column_of}
 use Rattle.columns.proofs.Reading.{read_more, column_lt}
 use Rattle.walk.proofs.Tails.{column_weight}
-use Rattle.front.specs.Passing.{PassedZeros, PassedOnes, PassedAlike}
+use Rattle.settle.specs.declared.rows.Pair.{Pair}
+use Rattle.front.specs.Passing.{NotPast, PassedZeros, PassedOnes, PassedAlike, PassedBelow}
 
 -- no digit of either is 1: both are 0
 both_zero : (a b : ℕ) → bit_or a b ≡ 0 → a + b ≡ 0
@@ -29,6 +31,9 @@ module _ (B W A C a c : ℕ) where
 
 -- ---- no column passed
 
+pub within_none : (k stop : ℕ) → NotPast k stop k
+within_none k stop = record { on = omega arith; within = λ h. h }
+
 weight_none : (x k : ℕ) → x ≡ x * 2 ^ (64 * (k - k))
 weight_none x k = let none : 64 * (k - k) ≡ 0 = omega arith in sym (ap (λ (n : ℕ). x * 2 ^ n) none ∙ ap (λ (n : ℕ). x * n) (pow-zero 2) ∙ mul-one x)
 
@@ -43,6 +48,9 @@ module _ (gap : ℕ) (first second : List ℕ) (k : ℕ) where
   alike_none = omega (arith, weight_none (read_to k 0 first) k, weight_none (read_to k gap second) k)
 
 -- ---- column k passed, after those from `from` on
+
+pub within_on : (from stop k : ℕ) → NotPast from stop k → k < stop → NotPast from stop (k + 1)
+within_on from stop k w more = record { on = omega (arith, w.on); within = λ h. omega arith }
 
 module _ (gap : ℕ) (first second : List ℕ) (from k : ℕ) (on : from ≤ k) where
   weight_on : 2 ^ (64 * (suc k - from)) ≡ 2 ^ 64 * 2 ^ (64 * (k - from))
@@ -84,3 +92,15 @@ module _ (gap : ℕ) (first second : List ℕ) (r : ℕ) (some : 1 ≤ r) where
 
   pub alike_all : ((k : ℕ) → 1 ≤ k → k < r → column_of k 0 first ≡ column_of k gap second) → PassedAlike gap first second 1 r
   alike_all = each_on (PassedAlike gap first second 1) (alike_none gap first second 1) (λ k. column_of k 0 first ≡ column_of k gap second) (λ k l p e. alike_on gap first second 1 k l e p) r some
+
+-- ---- the columns after the first, by what the first and the signs are
+
+module _ (pair : Pair) (odd : Bool) (first second : List ℕ) (r : ℕ) where
+  pub below_zeros : pair.same ≡ true → odd ≡ false → PassedZeros pair.gap first second 1 r → PassedBelow pair odd first second r
+  below_zeros s o e = record { zeros = λ x y. e; ones = λ x y. cc; alike = λ x y. cc; none = λ x y. cc }
+
+  pub below_ones : pair.same ≡ true → odd ≡ true → PassedOnes pair.gap first second 1 r → PassedBelow pair odd first second r
+  below_ones s o e = record { zeros = λ x y. cc; ones = λ x y. e; alike = λ x y. cc; none = λ x y. cc }
+
+  pub below_alike : pair.same ≡ false → odd ≡ false → PassedAlike pair.gap first second 1 r → PassedBelow pair odd first second r
+  below_alike s o e = record { zeros = λ x y. cc; ones = λ x y. cc; alike = λ x y. e; none = λ x y. cc }

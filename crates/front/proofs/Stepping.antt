@@ -121,13 +121,13 @@ module _ (f r : Front) (a b low : ℕ) where
       let fits : m * 2 ^ 64 + low < 2 * (2 ^ 64 * 2 ^ (64 * suc t)) = rw e (rw (column_weight (suc t)) at room) in
       subst (λ (x : ℕ). ShowsFront r (suc t) x) e (p t D m s unmixed moved (lt_of_mul-lt-mul_left (2 ^ 64) (omega arith)))
 
-  sum_rises : low + 2 ^ 64 * 1 ≡ a + b + 0 → FrontGrown f low (Some Rise) r → Stepped true f a b r
+  pub sum_rises : low + 2 ^ 64 * 1 ≡ a + b + 0 → FrontGrown f low (Some Rise) r → Stepped true f a b r
   sum_rises e p = record {
     sum = λ y t D s unmixed room. sum_column (Some Rise) p t D (suc D) s unmixed refl (omega arith) room;
     difference = λ y. absurd (true_false refl y);
   }
 
-  sum_stays : low + 2 ^ 64 * 0 ≡ a + b + 0 → FrontGrown f low None r → Stepped true f a b r
+  pub sum_stays : low + 2 ^ 64 * 0 ≡ a + b + 0 → FrontGrown f low None r → Stepped true f a b r
   sum_stays e p = record {
     sum = λ y t D s unmixed room. sum_column None p t D D s unmixed refl (omega arith) room;
     difference = λ y. absurd (true_false refl y);
@@ -140,7 +140,7 @@ module _ (f r : Front) (a b low : ℕ) where
 
   -- ---- of a difference
 
-  difference_stays : low + b + 0 ≡ a + 2 ^ 64 * 0 → FrontGrown f low None r → Stepped false f a b r
+  pub difference_stays : low + b + 0 ≡ a + 2 ^ 64 * 0 → FrontGrown f low None r → Stepped false f a b r
   difference_stays e p = record {
     sum = λ y. absurd (true_false y refl);
     difference = λ y t D s unmixed room h.
@@ -149,7 +149,7 @@ module _ (f r : Front) (a b low : ℕ) where
   }
 
   -- a borrow is met by what stands above, which is not 0
-  difference_falls : low < 2 ^ 64 → low + b + 0 ≡ a + 2 ^ 64 * 1 → FrontGrown f low (Some Fall) r → Stepped false f a b r
+  pub difference_falls : low < 2 ^ 64 → low + b + 0 ≡ a + 2 ^ 64 * 1 → FrontGrown f low (Some Fall) r → Stepped false f a b r
   difference_falls l e p = record {
     sum = λ y. absurd (true_false y refl);
     difference = λ y t D s unmixed room h.

@@ -1,7 +1,6 @@
--- One column of a sum or a difference in any base, and that such columns join. What each says in base 2 ^ 64 is the promise of
--- `add_carry` and `sub_borrow`.
+-- One column of a sum or a difference in any base, and that such columns join. Definitions only. What each says in base 2 ^ 64 is the
+-- promise of `add_carry` and `sub_borrow`.
 use Rattle.std.specs.Prelude.{◌≡◌, ℕ, ◌+◌, ◌*◌}
-use Rattle.std.proofs.Common.{ap, arith}
 
 -- in base B, digits x and y and the carry in k give the digit s and the carry out n: `column B x y k s n`
 abbrev pub Column : Type 1
@@ -26,21 +25,3 @@ Taken B x y k s n = s + y + k ≡ x + B * n
 -- y - x - k is s, with the borrow n on top of y
 abbrev pub TakenFrom : Column
 TakenFrom B x y k s n = Taken B y x k s n
-
-pub summed_begins : Begins Summed
-summed_begins k = omega arith
-
-pub taken_begins : Begins Taken
-taken_begins k = omega arith
-
-pub taken_from_begins : Begins TakenFrom
-taken_from_begins k = taken_begins k
-
-pub summed_joins : Joins Summed
-summed_joins P Q x y k s m u v t n low high = omega (arith, low, ap (λ (i : ℕ). P * i) high)
-
-pub taken_joins : Joins Taken
-taken_joins P Q x y k s m u v t n low high = omega (arith, low, ap (λ (i : ℕ). P * i) high)
-
-pub taken_from_joins : Joins TakenFrom
-taken_from_joins P Q x y k s m u v t n low high = taken_joins P Q y x k s m v u t n low high

@@ -1,7 +1,8 @@
 // What a walk over two runs of limbs does with one limb of each: it adds them, or takes one off the other.
-ghost use Rattle.std.specs.Prelude.{◌^◌};
+ghost use Rattle.std.specs.Prelude.{ℕ, ◌*◌, ◌^◌};
+ghost use Rattle.std.proofs.Common.{ap, arith};
 ghost use Rattle.limb.specs.Carry.{bit};
-ghost use Rattle.limb.specs.Column.{Column, Begins, Joins, Summed, Taken, TakenFrom, summed_begins, summed_joins, taken_begins, taken_joins, taken_from_begins, taken_from_joins};
+ghost use Rattle.limb.specs.Column.{Column, Begins, Joins, Summed, Taken, TakenFrom};
 
 use crate::{Limb, add_carry, sub_borrow};
 
@@ -28,9 +29,9 @@ impl Step for Adding {
         add_carry(x, y, carry)
     }
 
-    ghost begins = { summed_begins };
+    ghost begins = { λ k. Prim.omega arith };
 
-    ghost joins = { summed_joins };
+    ghost joins = { λ P Q x y k s m u v t n low high. Prim.omega (arith, low, ap (λ (i : ℕ). P * i) high) };
 }
 
 // x - y - borrow
@@ -43,9 +44,9 @@ impl Step for Taking {
         sub_borrow(x, y, carry)
     }
 
-    ghost begins = { taken_begins };
+    ghost begins = { λ k. Prim.omega arith };
 
-    ghost joins = { taken_joins };
+    ghost joins = { λ P Q x y k s m u v t n low high. Prim.omega (arith, low, ap (λ (i : ℕ). P * i) high) };
 }
 
 // y - x - borrow
@@ -58,7 +59,7 @@ impl Step for TakingFrom {
         sub_borrow(y, x, carry)
     }
 
-    ghost begins = { taken_from_begins };
+    ghost begins = { λ k. Prim.omega arith };
 
-    ghost joins = { taken_from_joins };
+    ghost joins = { λ P Q x y k s m u v t n low high. Prim.omega (arith, low, ap (λ (i : ℕ). P * i) high) };
 }

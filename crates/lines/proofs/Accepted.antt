@@ -48,7 +48,7 @@ number_or x (Err r) = x
 
 -- a head is refused, or accepted
 module _ (line : List ℕ) where
-  head_err : (r : Refusal) → Err r ≡ head_of line → head_refusal line ≡ Err r
+  pub head_err : (r : Refusal) → Err r ≡ head_of line → head_refusal line ≡ Err r
   unfolding head_of answered
   head_err r e = go (head_refusal line) refl
     where
@@ -56,7 +56,7 @@ module _ (line : List ℕ) where
       go (Ok u) h = let none : Err r ≡ Ok (number_in line) = e ∙ rw h in cc none
       go (Err q) h = let same : Err r ≡ Err q = e ∙ rw h in cc same
 
-  head_ok : (x : Number) → Ok x ≡ head_of line → head_refusal line ≡ accepted
+  pub head_ok : (x : Number) → Ok x ≡ head_of line → head_refusal line ≡ accepted
   unfolding head_of answered accepted
   head_ok x e = go (head_refusal line) refl
     where
@@ -68,7 +68,7 @@ module _ (line : List ℕ) where
   head_refused entry r e = refused_read line entry r (read_joined (length entry) line ∙ rw (head_err r e))
 
 module _ (line : List ℕ) (x : Number) (e : Ok x ≡ head_of line) where
-  unrefused : head_refusal line ≡ accepted
+  pub unrefused : head_refusal line ≡ accepted
   unrefused = head_ok line x e
 
   pub number_is : x ≡ number_in line

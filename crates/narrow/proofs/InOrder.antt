@@ -4,8 +4,9 @@ use mathlib.Core.Logic.{inl, inr}
 use mathlib.Core.Bool.{Bool, true, false, not, cond, ◌&&◌, ◌||◌, beq, true≢false}
 use mathlib.Core.List.{List, [], ◌∷◌}
 use Prim.Native.Nat.{ℕ, ◌+◌, ◌-◌, ◌*◌, ◌/◌, ◌≤◌, ◌<◌, min}
+use native.Mathlib.Nat.{le_of_lt}
 use native.Mathlib.Omega.{arith}
-use borrow.Author.Tests.{lt-ltb, le-ltb, le-leb, lt-leb, ne_eqb}
+use borrow.Author.Tests.{lt-ltb, le-ltb, le-leb, lt-leb, ne_eqb, ltb-true, ltb-false}
 use lib.Dec.{ltb, leb, eqb}
 use mir.Val.{bool_byte}
 use Rattle.depth.proofs.Exchange.{top_exchange, deciding_exchange}
@@ -23,6 +24,7 @@ use Rattle.decide.specs.Decide.{decide_at}
 use Rattle.decide.proofs.Decision.{depth_decided}
 use Rattle.checks.specs.declared.Number.{Number}
 use Rattle.checks.specs.Number.{operand_of}
+use Rattle.place.specs.declared.Placed.{Placed}
 use Rattle.settle.specs.declared.rows.Pair.{Pair}
 use Rattle.bridge.specs.Verdict.{Ordered}
 use Rattle.bridge.proofs.Told.{top_is, pair_gap}
@@ -43,6 +45,10 @@ by_exponents a b u v = elim (le_or_lt b a) [ inl h ↦ ((λ e. equal h e), (λ e
 
 pub order_told_lem : {s : Bool} {a b c d : ℕ} (u v : ℕ) → s ≡ (ltb a b || (eqb a b && ltb u v)) → a ≡ c → b ≡ d → (s ≡ true → c ≤ d) × (s ≡ false → d ≤ c)
 order_told_lem {s} {a} {b} {c} {d} u v e f g = rw (e, ← f, ← g) (by_exponents a b u v)
+
+-- so is that of exponents alone
+pub exponents_told : (a b : ℕ) → (ltb a b ≡ true → a ≤ b) × (ltb a b ≡ false → b ≤ a)
+exponents_told a b = ((λ e. le_of_lt (ltb-true a b e)), (λ e. ltb-false a b e))
 
 -- ---- the sign of the larger of two operands whose signs are known to be like, or unlike
 
@@ -114,7 +120,7 @@ flag_told false = refl
 -- ---- what is told of two operands in order
 
 module _ (o : Mode) (p : ℕ) (positive : 0 < p) (s : Seen) where
-  ordered_looked : (x y : Operand) (pair : Pair) (u v : ℕ) → Held x y pair u v → Told o p x y s.negative s.limb s.placed → Looked o p x y (record { seen = s; first = 1; second = bool_byte (ltb pair.gap 64) })
+  pub ordered_looked : (x y : Operand) (pair : Pair) (u v : ℕ) → Held x y pair u v → Told o p x y s.negative s.limb s.placed → Looked o p x y (record { seen = s; first = 1; second = bool_byte (ltb pair.gap 64) })
   ordered_looked x y pair u v h t =
       let gap : pair.gap ≡ x.exponent - y.exponent = ap (λ (q : Pair). q.gap) h.pair_is ∙ pair_gap x y h.regular in
       record {
@@ -126,7 +132,7 @@ module _ (o : Mode) (p : ℕ) (positive : 0 < p) (s : Seen) where
       }
 
   -- the other way round
-  looked_turned : (x y : Operand) → x.is_zero ≡ false → y.is_zero ≡ false → (i j : ℕ) → Looked o p y x (record { seen = s; first = i; second = j }) → Looked o p x y (record { seen = s; first = j; second = i })
+  pub looked_turned : (x y : Operand) → x.is_zero ≡ false → y.is_zero ≡ false → (i j : ℕ) → Looked o p y x (record { seen = s; first = i; second = j }) → Looked o p x y (record { seen = s; first = j; second = i })
   looked_turned x y r e i j l =
       let some : (x.is_zero && y.is_zero) ≡ false = rw r refl in
       let others : (y.is_zero && x.is_zero) ≡ false = rw e refl in
@@ -145,6 +151,12 @@ module _ (o : Mode) (p : ℕ) (positive : 0 < p) (s : Seen) where
       → Held (cond swapped y x) (cond swapped x y) pair u v → Told o p (cond swapped y x) (cond swapped x y) s.negative s.limb s.placed → Looked o p x y (record { seen = s; first = i; second = j })
   looked true x y pair u v e f h t = rw (e, f) (looked_turned x y h.regular h.ordered.regular 1 (bool_byte (ltb pair.gap 64)) (ordered_looked y x pair u v h t))
   looked false x y pair u v e f h t = rw (e, f) (ordered_looked x y pair u v h t)
+
+-- the sign may be told by another name
+pub looked_named : (o : Mode) (p : ℕ) (x y : Operand) (limb : ℕ) (placed : Placed) (m n : Bool) (i j : ℕ) → m ≡ n
+    → Looked o p x y (record { seen = record { negative = m; limb = limb; placed = placed }; first = i; second = j })
+    → Looked o p x y (record { seen = record { negative = n; limb = limb; placed = placed }; first = i; second = j })
+looked_named o p x y limb placed m n i j e l = subst (λ (b : Bool). Looked o p x y (record { seen = record { negative = b; limb = limb; placed = placed }; first = i; second = j })) e l
 
 -- ---- as the code finds it
 

@@ -21,6 +21,7 @@ use Rattle.std.specs.Prelude.{Result, Ok, Err}
 use Rattle.std.specs.declared.cmp.Ordering.{Ordering as Order}
 use Rattle.std.specs.declared.cmp.Ordering.TheVariants.{Less, Equal, Greater}
 use Rattle.checks.specs.declared.Refusal.{Refusal}
+use Rattle.checks.specs.Refusal.{rule_number, place_number}
 use Rattle.checks.specs.declared.Rule.TheVariants.{Precision}
 use Rattle.checks.specs.declared.Place.TheVariants.{First, Second}
 use Rattle.order.specs.Order.{order_of, case_of, number_of, sign_of, compared_of}
@@ -94,9 +95,14 @@ equal = Ok Equal
 abbrev greater : Result Order Refusal
 greater = Ok Greater
 
--- by size, by sign, by exponent, by the limbs below; the zeros; and a refused comparison
+-- the numbers of a comparison: of its case, of the rule and of the place, both 0 where nothing is refused
+abbrev numbers : Result Order Refusal → ℤ × ℕ × ℕ
+numbers (Ok o) = (number_of o, 0, 0)
+numbers (Err r) = (pos 0, rule_number r.rule, place_number r.place)
+
+-- by size, by sign, by exponent, by the limbs below; the zeros; and a refused comparison: the answers, and their numbers
 pub compared :
-    told (half false) (three_quarters false)
+    (told (half false) (three_quarters false)
     ∷ told (three_quarters false) (half false)
     ∷ told (half true) (three_quarters true)
     ∷ told (half true) (half false)
@@ -109,9 +115,23 @@ pub compared :
     ∷ told one_digit one
     ∷ told one one_digit
     ∷ []
-    ≡ less ∷ greater ∷ greater ∷ less ∷ greater ∷ equal ∷ less ∷ equal ∷ greater ∷ less ∷ Err (record { rule = Precision; place = First }) ∷ Err (record { rule = Precision; place = Second }) ∷ []
-unfolding compared_of answered case_of order_of scale share amount mantissa last_weight value_in compared_refusal first_refusal accepted precision_holds length_holds exponent_holds form_holds top_bit_holds spare_bits_hold operand_of is_zero_kind counted bias least_precision most_precision least_exponent most_exponent limbs_for spare_bits
-compared = refl
+    ≡ less ∷ greater ∷ greater ∷ less ∷ greater ∷ equal ∷ less ∷ equal ∷ greater ∷ less ∷ Err (record { rule = Precision; place = First }) ∷ Err (record { rule = Precision; place = Second }) ∷ [])
+    × (numbers (told (half false) (three_quarters false))
+    ∷ numbers (told (three_quarters false) (half false))
+    ∷ numbers (told (half true) (three_quarters true))
+    ∷ numbers (told (half true) (half false))
+    ∷ numbers (told one (three_quarters false))
+    ∷ numbers (told one long_one)
+    ∷ numbers (told one above_one)
+    ∷ numbers (told (none true) (none false))
+    ∷ numbers (told (none true) (half true))
+    ∷ numbers (told (none false) (half false))
+    ∷ numbers (told one_digit one)
+    ∷ numbers (told one one_digit)
+    ∷ []
+    ≡ (negsuc 0, 0, 0) ∷ (pos 1, 0, 0) ∷ (pos 1, 0, 0) ∷ (negsuc 0, 0, 0) ∷ (pos 1, 0, 0) ∷ (pos 0, 0, 0) ∷ (negsuc 0, 0, 0) ∷ (pos 0, 0, 0) ∷ (pos 1, 0, 0) ∷ (negsuc 0, 0, 0) ∷ (pos 0, 2, 1) ∷ (pos 0, 2, 2) ∷ [])
+unfolding compared_of answered case_of order_of scale share amount mantissa last_weight value_in compared_refusal first_refusal accepted precision_holds length_holds exponent_holds form_holds top_bit_holds spare_bits_hold operand_of is_zero_kind counted bias least_precision most_precision least_exponent most_exponent limbs_for spare_bits number_of rule_number place_number
+compared = (refl, refl)
 
 -- document 01's number for each order
 pub order_numbers : (number_of Less ≡ negsuc 0) × (number_of Equal ≡ pos 0) × (number_of Greater ≡ pos 1)

@@ -1,8 +1,8 @@
--- Laws of `Added`, `Subtracted` and `Reversed`: two answers that meet the same promise agree, and what each says of the whole target.
--- Assumes nothing.
+-- Laws of `Stepped`, `Added`, `Subtracted` and `Reversed`: two answers that meet the same promise agree, and what each says of the whole
+-- target. Assumes nothing.
 use mathlib.Core.Path.{◌≡◌, sym, ap, ◌∙◌}
 use mathlib.Core.Bool.{Bool}
-use mathlib.Core.List.{List, ◌++◌}
+use mathlib.Core.List.{List, [], ◌++◌}
 use Prim.Native.Nat.{ℕ, ◌+◌, ◌-◌, ◌*◌, ◌^◌, ◌≤◌, ◌<◌}
 use native.Mathlib.Nat.{add_assoc}
 use native.Mathlib.Omega.{arith}
@@ -12,13 +12,22 @@ use Rattle.limb.specs.Carry.{bit}
 use Rattle.limb.specs.Column.{Column, Summed, Taken, TakenFrom}
 use Rattle.limb.specs.Value.{value_in, Below}
 use Rattle.limb.proofs.Carry.{sum_unique, difference_unique}
+use Rattle.limb.proofs.Column.{summed_begins, taken_begins}
 use Rattle.limb.proofs.Value.{value_split, value_lt, value_unique, below_part, value_kept}
 use Rattle.run.specs.Sum.{Added, Subtracted, Reversed, AddedAt, SubtractedAt}
 use Rattle.run.specs.Walk.{Stepped}
+use Rattle.run.proofs.Stepping.{nothing_stepped}
+
+-- into no limbs, and off none, the carry goes straight out
+pub nothing_added : (o : List ℕ) (carry : Bool) → Added [] o carry [] carry
+nothing_added o carry = let s = nothing_stepped Summed summed_begins o carry in record { same_length = s.same_length; value = s.value }
+
+pub nothing_subtracted : (o : List ℕ) (borrow : Bool) → Subtracted [] o borrow [] borrow
+nothing_subtracted o borrow = let s = nothing_stepped Taken taken_begins o borrow in record { same_length = s.same_length; value = s.value }
 
 -- a limb and a carry are fixed by the digits and the carry in, so two answers of a walk are one
 module _ (column : Column) (fixed : (P x y k s t : ℕ) (p q : Bool) → s < P → t < P → column P x y k s (bit p) → column P x y k t (bit q) → (s ≡ t) × (p ≡ q)) where
-  stepped_unique : (xs ys : List ℕ) (p q : Bool) → Below (2 ^ 64) xs → Below (2 ^ 64) ys → (before operand : List ℕ) (carry : Bool)
+  pub stepped_unique : (xs ys : List ℕ) (p q : Bool) → Below (2 ^ 64) xs → Below (2 ^ 64) ys → (before operand : List ℕ) (carry : Bool)
       → Stepped column before operand carry xs p → Stepped column before operand carry ys q → (xs ≡ ys) × (p ≡ q)
   stepped_unique xs ys p q hx hy before operand carry a b =
       let e = fixed ((2 ^ 64) ^ length before) _ _ _ (value_in (2 ^ 64) xs) (value_in (2 ^ 64) ys) p q (below_top xs hx a.same_length) (below_top ys hy b.same_length) a.value b.value in
@@ -27,28 +36,34 @@ module _ (column : Column) (fixed : (P x y k s t : ℕ) (p q : Bool) → s < P �
       below_top : (l : List ℕ) → Below (2 ^ 64) l → length l ≡ length before → value_in (2 ^ 64) l < (2 ^ 64) ^ length before
       below_top l h e = rw e at (value_lt (2 ^ 64) l h)
 
-summed_fixed : (P x y k s t : ℕ) (p q : Bool) → s < P → t < P → Summed P x y k s (bit p) → Summed P x y k t (bit q) → (s ≡ t) × (p ≡ q)
+pub summed_fixed : (P x y k s t : ℕ) (p q : Bool) → s < P → t < P → Summed P x y k s (bit p) → Summed P x y k t (bit q) → (s ≡ t) × (p ≡ q)
 summed_fixed P x y k s t p q hs ht a b = sum_unique P s t (x + y + k) p q hs ht a b
 
-taken_fixed : (P x y k s t : ℕ) (p q : Bool) → s < P → t < P → Taken P x y k s (bit p) → Taken P x y k t (bit q) → (s ≡ t) × (p ≡ q)
+pub taken_fixed : (P x y k s t : ℕ) (p q : Bool) → s < P → t < P → Taken P x y k s (bit p) → Taken P x y k t (bit q) → (s ≡ t) × (p ≡ q)
 taken_fixed P x y k s t p q hs ht a b = difference_unique P s t (y + k) x p q hs ht (sym (add_assoc s y k) ∙ a) (sym (add_assoc t y k) ∙ b)
+
+pub taken_from_fixed : (P x y k s t : ℕ) (p q : Bool) → s < P → t < P → TakenFrom P x y k s (bit p) → TakenFrom P x y k t (bit q) → (s ≡ t) × (p ≡ q)
+taken_from_fixed P x y k s t p q hs ht a b = taken_fixed P y x k s t p q hs ht a b
 
 -- so two answers that meet the promise of a sum, or of a difference either way, are one
 module _ (xs ys : List ℕ) (p q : Bool) (hx : Below (2 ^ 64) xs) (hy : Below (2 ^ 64) ys) (before operand : List ℕ) (carry : Bool) where
+  pub stepped_sum_unique : Stepped Summed before operand carry xs p → Stepped Summed before operand carry ys q → (xs ≡ ys) × (p ≡ q)
+  stepped_sum_unique a b = stepped_unique Summed summed_fixed xs ys p q hx hy before operand carry a b
+
+  pub stepped_difference_unique : Stepped Taken before operand carry xs p → Stepped Taken before operand carry ys q → (xs ≡ ys) × (p ≡ q)
+  stepped_difference_unique a b = stepped_unique Taken taken_fixed xs ys p q hx hy before operand carry a b
+
+  pub stepped_reverse_unique : Stepped TakenFrom before operand carry xs p → Stepped TakenFrom before operand carry ys q → (xs ≡ ys) × (p ≡ q)
+  stepped_reverse_unique a b = stepped_unique TakenFrom taken_from_fixed xs ys p q hx hy before operand carry a b
+
   pub added_unique : Added before operand carry xs p → Added before operand carry ys q → (xs ≡ ys) × (p ≡ q)
-  added_unique a b =
-      stepped_unique Summed summed_fixed xs ys p q hx hy before operand carry record { same_length = a.same_length; value = a.value }
-      record { same_length = b.same_length; value = b.value }
+  added_unique a b = stepped_sum_unique record { same_length = a.same_length; value = a.value } record { same_length = b.same_length; value = b.value }
 
   pub subtracted_unique : Subtracted before operand carry xs p → Subtracted before operand carry ys q → (xs ≡ ys) × (p ≡ q)
-  subtracted_unique a b =
-      stepped_unique Taken taken_fixed xs ys p q hx hy before operand carry record { same_length = a.same_length; value = a.value }
-      record { same_length = b.same_length; value = b.value }
+  subtracted_unique a b = stepped_difference_unique record { same_length = a.same_length; value = a.value } record { same_length = b.same_length; value = b.value }
 
   pub reversed_unique : Reversed before operand carry xs p → Reversed before operand carry ys q → (xs ≡ ys) × (p ≡ q)
-  reversed_unique a b =
-      stepped_unique TakenFrom (λ P x y k s t p q hs ht a b. taken_fixed P y x k s t p q hs ht a b) xs ys p q hx hy before operand carry
-      record { same_length = a.same_length; value = a.value } record { same_length = b.same_length; value = b.value }
+  reversed_unique a b = stepped_reverse_unique record { same_length = a.same_length; value = a.value } record { same_length = b.same_length; value = b.value }
 
 -- the same where the part of the target from limb start on is worked on
 module _ (start : ℕ) (xs ys : List ℕ) (p q : Bool) (hx : Below (2 ^ 64) xs) (hy : Below (2 ^ 64) ys) (before operand : List ℕ) (carry : Bool) where

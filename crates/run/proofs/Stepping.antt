@@ -26,7 +26,7 @@ pub record SteppedTo (column : Column) (i : ℕ) (t₀ o : List ℕ) (first : Bo
   pub above : drop i t ≡ drop i t₀
 
 -- the lowest n limbs of the operand: those below limb i, and the others
-limbs_from : (B : ℕ) (o : List ℕ) (i n : ℕ) → i ≤ n → n ≤ length o → value_in B (take n o) ≡ value_in B (take i o) + B ^ i * value_in B (take (n - i) (drop i o))
+pub limbs_from : (B : ℕ) (o : List ℕ) (i n : ℕ) → i ≤ n → n ≤ length o → value_in B (take n o) ≡ value_in B (take i o) + B ^ i * value_in B (take (n - i) (drop i o))
 limbs_from B o i n hi hn =
     ap (λ (m : ℕ). value_in B (take m o)) (sym (add-sub_of_le hi)) ∙ ap (value_in B) (take-add i (n - i) o) ∙ value_append B (take i o) (take (n - i) (drop i o))
     ∙ ap (λ (m : ℕ). value_in B (take i o) + B ^ m * value_in B (take (n - i) (drop i o))) (length-take-le i o (omega arith))

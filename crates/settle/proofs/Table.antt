@@ -1,12 +1,45 @@
 -- Each return of the ways and the rows is a case of the definition.
-use mathlib.Core.Path.{◌≡◌}
-use mathlib.Core.Bool.{true, false, not, ◌&&◌}
-use Prim.Native.Nat.{ℕ, ◌+◌, ◌*◌, ◌≤◌, ◌<◌}
+use mathlib.Core.Path.{◌≡◌, refl, sym, ap, ◌∙◌}
+use mathlib.Core.Bool.{Bool, true, false, not, cond, ◌&&◌, beq}
+use Prim.Native.Nat.{ℕ, zero, suc, ◌+◌, ◌*◌, ◌≤◌, ◌<◌}
+use native.Mathlib.Omega.{arith}
 use borrow.Author.Tests.{le-leb, lt-leb, eq-eqb, ne_eqb}
 use lib.Dec.{ltb, leb, eqb}
+use Rattle.rounding.specs.Mode.{near, under, over, way, mode_of}
 use Rattle.settle.specs.Rows.{seen_row, far_row, row_of}
 use Rattle.settle.specs.declared.rows.Pair.{Pair}
 use Rattle.settle.specs.declared.rows.Row.TheVariants.{Exact, Plus, Minus, Hole}
+
+-- ---- ways, by the numbers of the modes
+
+module _ (mode : ℕ) (negative : Bool) where
+  pub way_nearest : mode ≡ 0 → near ≡ way (mode_of mode) negative
+  unfolding way mode_of
+  way_nearest e = rw e
+
+  pub way_zeroward : mode ≡ 1 → under ≡ way (mode_of mode) negative
+  unfolding way mode_of
+  way_zeroward e = rw e
+
+-- up and down, by the sign
+way_directed : (mode : ℕ) (negative : Bool) → (mode ≡ 0 → ⊥) → (mode ≡ 1 → ⊥) → cond (beq (eqb mode 2) negative) under over ≡ way (mode_of mode) negative
+unfolding way mode_of
+way_directed zero g n m = absurd (n refl)
+way_directed (suc zero) g n m = absurd (m refl)
+way_directed (suc (suc zero)) true n m = refl
+way_directed (suc (suc zero)) false n m = refl
+way_directed (suc (suc (suc k))) g n m = rw (ne_eqb (suc (suc (suc k))) 2 (λ e. omega arith)) (go g)
+  where
+    go : (g : Bool) → cond (beq false g) under over ≡ way (mode_of (suc (suc (suc k)))) g
+    go true = refl
+    go false = refl
+
+module _ (mode : ℕ) (negative : Bool) (n : mode ≡ 0 → ⊥) (m : mode ≡ 1 → ⊥) where
+  pub way_under : beq (eqb mode 2) negative ≡ true → under ≡ way (mode_of mode) negative
+  way_under e = ap (λ (b : Bool). cond b under over) (sym e) ∙ way_directed mode negative n m
+
+  pub way_over : beq (eqb mode 2) negative ≡ false → over ≡ way (mode_of mode) negative
+  way_over e = ap (λ (b : Bool). cond b under over) (sym e) ∙ way_directed mode negative n m
 
 -- ---- rows
 

@@ -1,14 +1,15 @@
 -- Laws of the low k bits of a run: a limb below the cut that is not 0 decides, and else the limb at the cut. Assumes nothing.
 use mathlib.Core.Bool.{true, false}
 use mathlib.Core.Path.{◌≡◌, refl, sym, ap, ◌∙◌}
-use Prim.Native.Nat.{ℕ, zero, suc, ◌+◌, ◌-◌, ◌*◌, ◌/◌, ◌%◌, ◌^◌, ◌<◌}
+use Prim.Native.Nat.{ℕ, zero, suc, ◌+◌, ◌-◌, ◌*◌, ◌/◌, ◌%◌, ◌^◌, ◌≤◌, ◌<◌}
 use native.Mathlib.Nat.{zero-mod, zero-mul, mul-pos, add-mul-mod_self_left, mul_assoc, ne_of_gt, add-zero}
 use native.Mathlib.Decide.{dec_le}
 use native.Mathlib.Omega.{arith}
 use mathlib.Core.List.{List, [], ◌∷◌}
 use lib.Dec.{eqb}
-use lib.ListN.{get_or, take, drop}
+use lib.ListN.{length, get_or, take, drop}
 use lib.Pow.{pow_pos, pow-add, mod-pow-add, mod-mod-pow}
+use lib.Seq.{take_all}
 use borrow.Author.Tests.{eq-eqb, ne_eqb, eqb-true, false-eqb}
 use Rattle.std.specs.List.{list_all}
 use Rattle.limb.proofs.Tests.{zero_times}
@@ -39,15 +40,19 @@ module _ (l : List ℕ) (k : ℕ) (h : Below (2 ^ 64) l) where
   low i = ap (λ (m : ℕ). x % m) (sym (base_pow i)) ∙ value_low (2 ^ 64) i l h
 
   -- limbs below the cut that are worth something
-  not_zero : (value_in (2 ^ 64) (take (k / 64) l) ≡ 0 → ⊥) → value_in (2 ^ 64) l % 2 ^ k ≡ 0 → ⊥
+  pub not_zero : (value_in (2 ^ 64) (take (k / 64) l) ≡ 0 → ⊥) → value_in (2 ^ 64) l % 2 ^ k ≡ 0 → ⊥
   unfolding x
   not_zero ne e =
       let q : ℕ = k / 64 in
       let ek : k % 64 + 64 * q ≡ k = omega arith in
       ne (sym (low q) ∙ sym (mod-mod-pow x (k % 64) (64 * q)) ∙ ap (λ (m : ℕ). m % 2 ^ (64 * q)) (ap (λ (m : ℕ). x % 2 ^ m) ek ∙ e) ∙ zero-mod _)
 
+  -- every limb below the cut is 0, and the list ends there
+  pub all_zero : (i : ℕ) → length l ≤ i → value_in (2 ^ 64) (take i l) ≡ 0 → value_in (2 ^ 64) l % 2 ^ k ≡ 0
+  all_zero i hl e = ap (λ (m : ℕ). m % 2 ^ k) ((rw (take_all i l hl) at e)) ∙ zero-mod _
+
   -- every limb below the cut's is 0: what is left is the low part of the cut's limb
-  rest_decides : value_in (2 ^ 64) (take (k / 64) l) ≡ 0 → eqb (get_or l (k / 64) 0 % 2 ^ (k % 64)) 0 ≡ eqb (value_in (2 ^ 64) l % 2 ^ k) 0
+  pub rest_decides : value_in (2 ^ 64) (take (k / 64) l) ≡ 0 → eqb (get_or l (k / 64) 0 % 2 ^ (k % 64)) 0 ≡ eqb (value_in (2 ^ 64) l % 2 ^ k) 0
   unfolding x
   rest_decides e =
       let q : ℕ = k / 64 in

@@ -94,10 +94,10 @@ module _ (place : Place) (line : List ℕ) where
             go (Ok u) k = let same : Ok y ≡ Ok (number_in line) = e ∙ read_is ∙ rw k in (refl, ap (number_or y) same)
             go (Err q) k = let none : Ok y ≡ Err q = e ∙ read_is ∙ rw k in cc none
 
-        line_refused : (q : Refusal) → Err q ≡ placed place r → number_refusal place line ≡ Err q
+        pub line_refused : (q : Refusal) → Err q ≡ placed place r → number_refusal place line ≡ Err q
         line_refused q e = refused_by (number_in line) q (e ∙ ap (placed place) read_is)
 
-        line_read : (exit : List ℕ) (y : Number) → Ok y ≡ placed place r → last ≡ target_after line part → length last ≡ length part → exit ≡ put_mid 0 (n - 0) room last → NumberRead place line exit y
+        pub line_read : (exit : List ℕ) (y : Number) → Ok y ≡ placed place r → last ≡ target_after line part → length last ≡ length part → exit ≡ put_mid 0 (n - 0) room last → NumberRead place line exit y
         unfolding accepted placed target_after left_by limbs_of_line
         line_read exit y m t k z =
             let l : limbs_for (number_in line).precision ≡ length last = sym n_is ∙ sym count ∙ sym k in

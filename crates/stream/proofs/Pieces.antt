@@ -294,6 +294,14 @@ module _ (most : ℕ) (start : State) (bytes entry : List ℕ) (s : State) (out 
     pub taken_some : 0 < p.taken
     taken_some = omega (arith, taken_is, taken_pos (group_of s) (drop count bytes) some group_few)
 
+    pub held_within : Rooms x y z → Within p.held
+    unfolding held_of
+    held_within r = record {
+      first = omega (arith, r.first, ap length first_is, onto_longer h.first s.first, ap (λ (k : Held). k.first) held_is);
+      second = omega (arith, r.second, ap length second_is, onto_longer h.second s.second, ap (λ (k : Held). k.second) held_is);
+      third = omega (arith, r.third, ap length third_is, onto_longer h.third s.third, ap (λ (k : Held). k.third) held_is);
+    }
+
 pub serve_unready : (s : State) (bytes out : List ℕ) → is_ready s out ≡ false → ServedBy s bytes s out out (record { taken = 0; told = 0 })
 serve_unready s bytes out r = record {
   unready = λ f. (refl, refl, refl);

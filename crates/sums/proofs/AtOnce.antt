@@ -113,6 +113,9 @@ attempted_reported o p x y w exit {s} l told =
 -- ---- copies of the operands
 
 module _ {a b x y : Number} (xl yl : List ℕ) (i : a ≡ x) (j : b ≡ y) where
+  pub copies_ready : (mode p n : ℕ) → (mode ≤ 3) × WellFormed (operand_of x xl) × WellFormed (operand_of y yl) × Room p n → (mode ≤ 3) × WellFormed (operand_of a xl) × WellFormed (operand_of b yl) × Room p n
+  copies_ready mode p n h = rw (i, j) h
+
   pub copies_reported : (mode : Mode) (p : ℕ) (exit : List ℕ) (s : Sum) → Reported plus mode p (operand_of a xl) (operand_of b yl) exit s → Reported plus mode p (operand_of x xl) (operand_of y yl) exit s
   copies_reported mode p exit s h = rw (i, j) at h
 

@@ -76,7 +76,7 @@ none_some : {a : Tail} → ◌≡◌ {A = Option Tail} None (Some a) → ⊥
 unfolding bit
 none_some e = let z : ◌≡◌ {A = Bool} false true = ap is_some e in let f : ◌≡◌ {A = ℕ} 0 1 = ap bit z in omega arith
 
-zeros_fall : (low : ℕ) (next : Tail) → LongerTail Ones low next → PassesTail (Some Fall) Zeros low (Some Fall) next
+pub zeros_fall : (low : ℕ) (next : Tail) → LongerTail Ones low next → PassesTail (Some Fall) Zeros low (Some Fall) next
 zeros_fall low next l t n zero m (e, f) unmixed g = absurd (omega arith)
 zeros_fall low next l t n (suc h) m (e, f) unmixed g =
     let M : ℕ = 2 ^ (64 * t) in

@@ -116,14 +116,14 @@ module _ (w r : Window) (a b : ℕ) (before after : List ℕ) (change : Option C
       subst (λ (x : ℕ). Shows r after (suc k) x) ev
       (p.shows k n D m s unmixed en mv (room_before (2 ^ 64) (2 ^ (64 * n)) m low fits) (leads_on w before k n D s en m low h start))
 
-sum_rises : (w r : Window) (a b : ℕ) (before after : List ℕ) (low : ℕ) → low + 2 ^ 64 * 1 ≡ a + b + 0 → Appended w low (Some Rise) before r after → Summed w a b before r after
+pub sum_rises : (w r : Window) (a b : ℕ) (before after : List ℕ) (low : ℕ) → low + 2 ^ 64 * 1 ≡ a + b + 0 → Appended w low (Some Rise) before r after → Summed w a b before r after
 sum_rises w r a b before after low e p = record {
   same_length = p.same_length;
   same_skip = p.same_skip;
   shows = λ k n D s unmixed en room first. sum_column w r a b before after (Some Rise) low p k n D (suc D) s unmixed en refl (omega arith) (omega arith) room first;
 }
 
-sum_stays : (w r : Window) (a b : ℕ) (before after : List ℕ) (low : ℕ) → low + 2 ^ 64 * 0 ≡ a + b + 0 → Appended w low None before r after → Summed w a b before r after
+pub sum_stays : (w r : Window) (a b : ℕ) (before after : List ℕ) (low : ℕ) → low + 2 ^ 64 * 0 ≡ a + b + 0 → Appended w low None before r after → Summed w a b before r after
 sum_stays w r a b before after low e p = record {
   same_length = p.same_length;
   same_skip = p.same_skip;
@@ -139,7 +139,7 @@ sum_appended w r a b before after low false e p = sum_stays w r a b before after
 -- ---- a difference
 
 module _ (w r : Window) (a b : ℕ) (before after : List ℕ) (low : ℕ) (limbs : Below (2 ^ 64) before) (f : 0 < w.filled) where
-  difference_stays : low + b + 0 ≡ a + 2 ^ 64 * 0 → Appended w low None before r after → Differed w a b before r after
+  pub difference_stays : low + b + 0 ≡ a + 2 ^ 64 * 0 → Appended w low None before r after → Differed w a b before r after
   difference_stays e p = record {
     same_length = p.same_length;
     shows = λ k D s unmixed h.
@@ -150,7 +150,7 @@ module _ (w r : Window) (a b : ℕ) (before after : List ℕ) (low : ℕ) (limbs
         (p.shows k n D D s unmixed en refl (shows_lt w before k n D limbs s en) (leads_on w before k n D s en D low (omega arith) (λ z. absurd (omega arith))));
   }
 
-  difference_falls : b < 2 ^ 64 → low + b + 0 ≡ a + 2 ^ 64 * 1 → Appended w low (Some Fall) before r after → Differed w a b before r after
+  pub difference_falls : b < 2 ^ 64 → low + b + 0 ≡ a + 2 ^ 64 * 1 → Appended w low (Some Fall) before r after → Differed w a b before r after
   difference_falls hb e p = record {
     same_length = p.same_length;
     shows = λ k D s unmixed h.

@@ -110,7 +110,18 @@ module _ (x : Number) (xl : List ℕ) (y : Number) (yl : List ℕ) (gx : WellFor
 pub holding_named : {z w : Operand} {pair : Pair} {a b first second : List ℕ} → a ≡ first → b ≡ second → Holding z w pair first second → Holding z w pair a b
 holding_named e f h = record { course = h.course; regular = h.regular; pair_is = h.pair_is; first_is = e ∙ h.first_is; second_is = f ∙ h.second_is }
 
+pub offered_named : {pair : Pair} {a b first second : List ℕ} → a ≡ first → b ≡ second → Offered pair first second → Offered pair a b
+offered_named e f o = record { larger = o.larger; other = o.other; holding = holding_named e f o.holding }
+
 -- two counts that have changed places, put back
 pub counts_back : (s : Bool) {i j upper lower m n : ℕ} → i ≡ cond s lower upper → j ≡ cond s upper lower → upper ≡ m → lower ≡ n → (cond s j i ≡ m) × (cond s i j ≡ n)
 counts_back true e f g h = (f ∙ g, e ∙ h)
 counts_back false e f g h = (e ∙ g, f ∙ h)
+
+pub exchanged_told : (s : Bool) {o : Mode} {p : ℕ} {z w : Operand} {exit : List ℕ} {n m : Bool} {placed told : Placed} {k d i j upper lower : ℕ}
+    → m ≡ n → told ≡ placed → d ≡ k → i ≡ cond s lower upper → j ≡ cond s upper lower
+    → Attempted o p z w exit n placed k upper lower → Attempted o p z w exit m told d (cond s j i) (cond s i j)
+exchanged_told s {o} {p} {z} {w} {exit} {n} {m} {placed} {told} {k} {d} {i} {j} {upper} {lower} a b c e f t =
+    let u : cond s j i ≡ upper = (counts_back s e f refl refl).0 in
+    let v : cond s i j ≡ lower = (counts_back s e f refl refl).1 in
+    rw (a, b, c, u, v) t
