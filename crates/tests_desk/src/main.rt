@@ -24,7 +24,7 @@ fn main(rt: HostRuntime) -> io::Result<()> {
     // Inputs are counted from 1.
     let mut input = 0u64;
     let mut room = [0; INPUT_ROOM];
-    vectors::answer_lines(
+    vectors::answer_lines_in(
         &mut rt.stdin(),
         &mut rt.stdout(),
         &mut [0; LINE_ROOM],

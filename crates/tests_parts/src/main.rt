@@ -12,7 +12,7 @@ ghost use Rattle.std.specs.Io.Cursor.{cursor_position};
 
 use std::io;
 use std::io::Write;
-use vectors::{ANSWER_BYTES, Answer, Fields, answer_lines, answered};
+use vectors::{ANSWER_BYTES, Answer, Fields, answer_lines_in, answered};
 
 // A line has no more bytes that count.
 const LINE_ROOM: usize = 4096;
@@ -36,7 +36,7 @@ fn run_case(line: &[u8], answer: &mut Answer)
 
 fn main(rt: HostRuntime) -> io::Result<()> {
     let mut answer = Answer::new([0; ANSWER_BYTES]);
-    answer_lines(
+    answer_lines_in(
         &mut rt.stdin(),
         &mut rt.stdout(),
         &mut [0; LINE_ROOM],

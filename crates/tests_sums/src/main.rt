@@ -6,14 +6,14 @@ mod case; // case.rt: one case
 
 use std::io;
 use std::io::Write;
-use vectors::{ANSWER_BYTES, Answer, answer_lines, answered};
+use vectors::{ANSWER_BYTES, Answer, answer_lines_in, answered};
 
 // A line has no more bytes that count.
 const LINE_ROOM: usize = 4096;
 
 fn main(rt: HostRuntime) -> io::Result<()> {
     let mut answer = Answer::new([0; ANSWER_BYTES]);
-    answer_lines(
+    answer_lines_in(
         &mut rt.stdin(),
         &mut rt.stdout(),
         &mut [0; LINE_ROOM],

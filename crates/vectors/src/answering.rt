@@ -2,8 +2,9 @@
 ghost use Rattle.std.specs.Prelude.{◌≡◌, ◌≤◌, IfOk, length, take};
 ghost use Rattle.std.specs.Io.Cursor.{cursor_position, cursor_inner};
 
+use std::alloc::Global;
 use std::io;
-use std::io::{Cursor, Read, Write};
+use std::io::{BufRead, BufReader, Cursor, Read, Write};
 
 // How many bytes are read at a time.
 const CHUNK: usize = 8192;
@@ -53,8 +54,8 @@ fn answer_chunk<const ROOM: usize, W: Write, F: FnMut(&[u8], &mut W) -> io::Resu
 }
 
 // Hands each line of the input, without its line feed, to `case`, which prints the answer. A line of more bytes than
-// `line` has loses what is over; bytes after the last line feed are no line.
-pub fn answer_lines<
+// `line` has loses what is over; bytes after the last line feed are no line. Nothing is allocated.
+pub fn answer_lines_in<
     const ROOM: usize,
     R: Read,
     W: Write,
@@ -72,6 +73,40 @@ pub fn answer_lines<
             Err(e) if e.kind() == io::ErrorKind::Interrupted => {}
             Err(e) => return Err(e),
         }
+    }
+    Ok(())
+}
+
+// The line under way with its line feed; nothing where the input ends before one.
+fn next_line<'a, R: BufRead>(input: &mut R, line: &'a mut Vec<u8>) -> io::Result<Option<&'a [u8]>> {
+    line.clear();
+    input.read_until(b'\n', line)?;
+    Ok(line.strip_suffix(b"\n"))
+}
+
+// The same for a room that is known only as it runs, and an answer of any length: prints what `case` writes into the
+// answer. A line of more than `room` bytes loses what is over; bytes after the last line feed are no line. A line is
+// read whole, and it and its answer stand on the heap.
+pub fn answer_lines<R: Read + Drop, W: Write, F: FnMut(&[u8], &mut Vec<u8>) -> io::Result<()>>(
+    alloc: Global,
+    input: R,
+    output: &mut W,
+    room: usize,
+    mut case: F,
+) -> io::Result<()>
+    requires { (state : F) (line answer : _) → length line.now ≤ room → F.pre state line answer }
+{
+    let mut input = BufReader::new(alloc, input)?;
+    let mut line = Vec::new(alloc);
+    let mut answer = Vec::new(alloc);
+    // Nothing says that an input ends, so a loop to its end is counted.
+    for _ in 0..u64::MAX {
+        let Some(whole) = next_line(&mut input, &mut line)? else {
+            break;
+        };
+        answer.clear();
+        case(&whole[..whole.len().min(room)], &mut answer)?;
+        output.write_all(&answer)?;
     }
     Ok(())
 }
